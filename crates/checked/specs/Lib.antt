@@ -1,1 +1,6 @@
-pub mod A
+pub mod Refusals
+pub mod Checked
+pub mod Laws
+pub mod Patterns
+pub mod PatternLaws
+pub mod Examples
