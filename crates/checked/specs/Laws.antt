@@ -234,7 +234,7 @@ within-finite (inf false) h = h
 within-finite (fin s m e) h = tt
 
 -- a chain of refusals, bracketed to the right, without its zeros
-pub ruleset opened = (_⊕_, _⊖_, _⊗_, _⊘_, minus, first-assoc, first-zero, zero-first)
+pub ruleset opened = (_⊕_, _⊖_, _⊗_, _⊘_, minus, first-assoc, first-zero, zero-first, settled-none)
 
 -- and without the notes that the next one makes needless
 pub ruleset absorbed = (absorbs, ends, itself, or-true, alone-tells, add-tells, sub-tells, mul-tells, div-tells, neg-tells)

@@ -1,0 +1,27 @@
+use borrow.Author.Needs.{needs}
+use Rattle.vectors.specs.Entries.{crossDue}
+use Rattle.vectors.specs.Laws.{rules as vectors-rules}
+use mathlib.Core.Path.{sym, _∙_}
+use Rattle.vectors.proofs.Vec3.cross.Statement.{statement}
+use Rattle.vectors.proofs.Vec3.cross.Tie as tie
+
+are-within-requires : tie.Need-are-within-requires
+are-within-requires c κs = search needs
+
+cross-requires : tie.Need-cross-requires
+cross-requires c κs = search needs
+
+tried-requires : tie.Need-tried-requires
+tried-requires c κs = search needs
+
+returns : tie.Need-returns
+unfolding crossDue
+returns c = simp (c .tried .ensures, c .before .cross .ensures, sym (c .before .before .before .are-within .ensures) ∙ c .before .before .if1 .taken, vectors-rules)
+
+returns-2 : tie.Need-returns-2
+unfolding crossDue
+returns-2 c = simp (sym (c .before .are-within .ensures) ∙ c .if1 .left, vectors-rules)
+
+pub cross-spec : {M : Type 1} → statement M
+cross-spec =
+    tie.close (tie.spec are-within-requires cross-requires tried-requires returns returns-2)

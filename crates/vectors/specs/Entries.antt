@@ -1,0 +1,47 @@
+-- What the entries on vectors are due to answer: the numbers handed in are tried, then the formula is worked out.
+use Prim.Native.Nat.{ℕ}
+use mathlib.Core.Bool.{Bool, _&&_}
+use mathlib.Core.List.{List, [], _∷_}
+use lib.Ieee.{Float}
+use Rattle.checked.specs.Refusals.{OUT-OF-RANGE}
+use Rattle.checked.specs.Checked.{Checked, within, given, Due, due, refused, settled, answered, unless}
+use Rattle.vectors.specs.Vectors.{within3, plusC, minusC, timesC, negC, crossC, dotC}
+use Rattle.vectors.specs.declared.Vec3.{Vec3}
+use Rattle.vectors.specs.declared.Vector.{Vector}
+use Rattle.vectors.specs.declared.Vector.the-variants as vector
+use Rattle.vectors.specs.declared.Coordinates.{Coordinates}
+
+-- ---- what the code's answers say
+abbrev pub vectorDue : Vector → Due Vec3
+vectorDue (vector.Value v) = due v
+vectorDue (vector.Refused n) = refused n
+
+-- three numbers, or a refusal beside numbers that mean nothing
+abbrev pub coordinatesDue : Coordinates → Due (List Float)
+coordinatesDue c = settled (c .refusal) (c .values)
+
+-- ---- what is due
+-- `Vec3::dot`
+unfoldable pub dotDue : Vec3 → Vec3 → Due Float
+dotDue a b = unless OUT-OF-RANGE (within3 a && within3 b) (answered (dotC a b))
+
+-- `Vec3::cross`
+unfoldable pub crossDue : Vec3 → Vec3 → Due Vec3
+crossDue a b = unless OUT-OF-RANGE (within3 a && within3 b) (answered (crossC a b))
+
+-- `a + b`, `a - b`, `-a` and `a * k`
+unfoldable pub sumDue : Vec3 → Vec3 → Due Vec3
+sumDue a b = unless OUT-OF-RANGE (within3 a && within3 b) (answered (plusC a b))
+
+unfoldable pub differenceDue : Vec3 → Vec3 → Due Vec3
+differenceDue a b = unless OUT-OF-RANGE (within3 a && within3 b) (answered (minusC a b))
+
+unfoldable pub negationDue : Vec3 → Due Vec3
+negationDue a = unless OUT-OF-RANGE (within3 a) (answered (negC a))
+
+unfoldable pub timesDue : Vec3 → Float → Due Vec3
+timesDue a k = unless OUT-OF-RANGE (within3 a && within k) (answered (timesC a k))
+
+-- `Vec3::to_array`
+unfoldable pub toArrayDue : Vec3 → Due (List Float)
+toArrayDue a = unless OUT-OF-RANGE (within3 a) (due (a .x ∷ a .y ∷ a .z ∷ []))

@@ -1,0 +1,198 @@
+// Vectors in the plane and in space: what a program may call is here, the bare formulas are in `formula`.
+ghost use mathlib.Core.Path.{_≡_};
+ghost use mathlib.Core.Bool.{_&&_};
+ghost use Rattle.checked.specs.Checked.{numberDue, settled, within};
+ghost use Rattle.vectors.specs.Vectors.{within2, within3, nines, plane, space};
+ghost use Rattle.vectors.specs.Entries.{vectorDue, coordinatesDue, dotDue, crossDue, sumDue, differenceDue, negationDue, timesDue, toArrayDue};
+use checked::CheckedNumber;
+use checked::Number;
+use checked::OUT_OF_RANGE;
+use checked::is_within;
+use checked::note;
+
+pub mod formula;
+
+// A point or vector in the plane.
+pub struct Vec2 {
+    pub x: f64,
+    pub y: f64,
+}
+
+// A point or vector in space.
+pub struct Vec3 {
+    pub x: f64,
+    pub y: f64,
+    pub z: f64,
+}
+
+// A vector, with the refusal that its computation met first; 0 is none.
+pub struct CheckedVec3 {
+    pub refusal: u8,
+    pub value: Vec3,
+}
+
+// The answer of an entry whose result is a vector.
+pub enum Vector {
+    Value(Vec3),
+    Refused(u8),
+}
+
+// The answer of an entry whose result is three numbers; zeros beside a refusal.
+pub struct Coordinates {
+    pub refusal: u8,
+    pub values: [f64; 3],
+}
+
+// All numbers of a vector pass the test of what is handed in.
+pub fn is_within2(v: Vec2) -> bool
+    ensures { λ r. ⌜ r ≡ within2 v ⌝ }
+{
+    is_within(v.x) & is_within(v.y)
+}
+
+pub fn is_within3(v: Vec3) -> bool
+    ensures { λ r. ⌜ r ≡ within3 v ⌝ }
+{
+    is_within(v.x) & (is_within(v.y) & is_within(v.z))
+}
+
+fn are_within(a: Vec3, b: Vec3) -> bool
+    ensures { λ r. ⌜ r ≡ (within3 a && within3 b) ⌝ }
+{
+    is_within3(a) & is_within3(b)
+}
+
+fn is_within_times(a: Vec3, k: f64) -> bool
+    ensures { λ r. ⌜ r ≡ (within3 a && within k) ⌝ }
+{
+    is_within3(a) & is_within(k)
+}
+
+// The vector, or its refusal where there is one.
+pub fn settle(c: CheckedVec3) -> Vector
+    ensures { λ r. ⌜ vectorDue r ≡ settled (c .refusal) (c .value) ⌝ }
+{
+    let r = c.refusal;
+    let v = c.value;
+    if r == 0 {
+        Vector::Value(v)
+    } else {
+        Vector::Refused(r)
+    }
+}
+
+// The vector, or a refusal where one of its numbers is not finite.
+fn tried(v: Vec3) -> Vector
+    ensures { λ r. ⌜ vectorDue r ≡ settled (nines v) v ⌝ }
+{
+    settle(CheckedVec3 {
+        refusal: formula::noted(v, 0),
+        value: v,
+    })
+}
+
+impl Vec2 {
+    pub fn new(x: f64, y: f64) -> Self
+        ensures { λ r. ⌜ r ≡ plane x y ⌝ }
+    {
+        Self { x: x, y: y }
+    }
+}
+
+impl Vec3 {
+    pub const ZERO: Self = Self {
+        x: 0.0,
+        y: 0.0,
+        z: 0.0,
+    };
+
+    pub fn new(x: f64, y: f64, z: f64) -> Self
+        ensures { λ r. ⌜ r ≡ space x y z ⌝ }
+    {
+        Self { x: x, y: y, z: z }
+    }
+
+    pub fn dot(self, o: Self) -> Number
+        ensures { λ r. ⌜ numberDue r ≡ dotDue self o ⌝ }
+    {
+        if are_within(self, o) {
+            let d = formula::dot(self, o);
+            checked::settle(CheckedNumber {
+                refusal: note(0, d),
+                value: d,
+            })
+        } else {
+            Number::Refused(OUT_OF_RANGE)
+        }
+    }
+
+    pub fn cross(self, o: Self) -> Vector
+        ensures { λ r. ⌜ vectorDue r ≡ crossDue self o ⌝ }
+    {
+        if are_within(self, o) {
+            tried(formula::cross(self, o))
+        } else {
+            Vector::Refused(OUT_OF_RANGE)
+        }
+    }
+
+    // self + o
+    pub fn sum(self, o: Self) -> Vector
+        ensures { λ r. ⌜ vectorDue r ≡ sumDue self o ⌝ }
+    {
+        if are_within(self, o) {
+            tried(formula::plus(self, o))
+        } else {
+            Vector::Refused(OUT_OF_RANGE)
+        }
+    }
+
+    // self - o
+    pub fn difference(self, o: Self) -> Vector
+        ensures { λ r. ⌜ vectorDue r ≡ differenceDue self o ⌝ }
+    {
+        if are_within(self, o) {
+            tried(formula::minus(self, o))
+        } else {
+            Vector::Refused(OUT_OF_RANGE)
+        }
+    }
+
+    // -self
+    pub fn negation(self) -> Vector
+        ensures { λ r. ⌜ vectorDue r ≡ negationDue self ⌝ }
+    {
+        if is_within3(self) {
+            tried(formula::neg(self))
+        } else {
+            Vector::Refused(OUT_OF_RANGE)
+        }
+    }
+
+    // self * k
+    pub fn times(self, k: f64) -> Vector
+        ensures { λ r. ⌜ vectorDue r ≡ timesDue self k ⌝ }
+    {
+        if is_within_times(self, k) {
+            tried(formula::times(self, k))
+        } else {
+            Vector::Refused(OUT_OF_RANGE)
+        }
+    }
+
+    pub fn to_array(self) -> Coordinates
+        ensures { λ r. ⌜ coordinatesDue r ≡ toArrayDue self ⌝ }
+    {
+        if is_within3(self) {
+            Coordinates {
+                refusal: 0,
+                values: [self.x, self.y, self.z],
+            }
+        } else {
+            Coordinates {
+                refusal: OUT_OF_RANGE,
+                values: [0.0, 0.0, 0.0],
+            }
+        }
+    }
+}
