@@ -1,0 +1,421 @@
+-- Square roots of whole numbers, and what `round-root` gives: `root n` is the r with r * r ≤ n < (r + 1) * (r + 1); there is one whole number nearest to a root;
+-- and where num / den, in squares of the format's unit, is n * 4 ^ h, with a root of n that has prec digits, `round-root` is that whole number times 2 ^ h units. Assumes nothing.
+use mathlib.Core.Path.{_≡_, refl, sym, ap, _∙_, subst}
+use mathlib.Core.Bool.{Bool, true, false, not, _&&_, cond}
+use Prim.Native.Nat.{ℕ, zero, suc, _+_, _-_, _*_, _/_, _%_, _^_, _≤_, _<_, zero-le, compare, Ordering, Ordering·lt, Ordering·eq, Ordering·gt}
+use native.Mathlib.Nat.{le-refl, le-trans, le-of-eq, le-of-lt, le-antisymm, lt-of-lt-of-le, lt-of-le-of-lt, lt-of-not-le, lt-irrefl, le-of-suc-le-suc, not-le-of-lt, add-comm, add-assoc, add-left-comm, mul-one, one-mul, mul-assoc, mul-comm, mul-left-comm, mul-right-comm, mul-add, add-mul, mul-suc, suc-mul, mul-pos, mul-le-mul-left, mul-le-mul-right, mul-lt-mul-of-pos-right, lt-of-mul-lt-mul-right, le-of-mul-le-mul-right, eq-of-mul-eq-mul-right, mul-div-cancel, zero-lt-suc, pow-succ', div-eq-of-lt-le, div-lt-iff-lt-mul, div-le-of-le-mul, div-add-mod', mod-lt}
+use native.Mathlib.Omega.{arith}
+use lib.Dec.{T, leb, ltb, eqb, leb→le, nleb→lt, isLe, isEq, eqb→eq, eqb-refl}
+use lib.Arith.{lt-of-le-ne}
+use lib.Pow.{pow-add, pow-pos, pow-mono}
+use lib.Ieee.{Float, Format, prec, low, size, nearest, units}
+use lib.Ieee.Digits.{size-lt, size-le, size-reaches}
+use lib.Ieee.Fits.{two, two-le-pos}
+use Rattle.rounding.specs.Root.{digits, root, round-root, NearRoot}
+
+-- ---- squares and their order
+
+sq-mono : {a b : ℕ} → a ≤ b → a * a ≤ b * b
+sq-mono {a} {b} h = le-trans (mul-le-mul-left a h) (mul-le-mul-right b h)
+
+pub sq-back : (a b : ℕ) → a * a < b * b → a < b
+sq-back a b h = lt-of-not-le (λ (g : b ≤ a). not-le-of-lt h (sq-mono g))
+
+sq-next : (r : ℕ) → (r + 1) * (r + 1) ≡ r * r + 2 * r + 1
+sq-next r = add-mul r 1 (r + 1) ∙ go (mul-add r r 1)
+  where
+    go : r * (r + 1) ≡ r * r + r * 1 → r * (r + 1) + 1 * (r + 1) ≡ r * r + 2 * r + 1
+    go e = omega arith
+
+sq-scaled : (a p : ℕ) → a * p * (a * p) ≡ a * a * (p * p)
+sq-scaled a p = simp (mul-assoc, mul-left-comm)
+
+sq-twice : (r : ℕ) → 2 * r * (2 * r) ≡ 4 * (r * r)
+sq-twice r = mul-assoc 2 r (2 * r) ∙ ap (λ (k : ℕ). 2 * k) (mul-left-comm r 2 r) ∙ sym (mul-assoc 2 2 (r * r))
+
+-- ---- the whole part of a root
+
+abbrev pub Floor : ℕ → ℕ → Type 0
+Floor n r = (r * r ≤ n) × (n < (r + 1) * (r + 1))
+
+-- from the root p of n / 4
+step : (n p : ℕ) → Floor (n / 4) p → Floor n (cond (leb ((2 * p + 1) * (2 * p + 1)) n) (2 * p + 1) (2 * p))
+step n p h = go (leb ((2 * p + 1) * (2 * p + 1)) n) (leb→le ((2 * p + 1) * (2 * p + 1)) n) (nleb→lt ((2 * p + 1) * (2 * p + 1)) n)
+  where
+    a : 2 * p * (2 * p) ≡ 4 * (p * p)
+    a = sq-twice p
+
+    lo : 2 * p * (2 * p) ≤ n
+    lo = omega (arith, a, h .0)
+
+    b : (2 * p + 1 + 1) * (2 * p + 1 + 1) ≡ 4 * ((p + 1) * (p + 1))
+    b = ap (λ (k : ℕ). k * k) (twice p) ∙ sq-twice (p + 1)
+      where
+        twice : (k : ℕ) → 2 * k + 1 + 1 ≡ 2 * (k + 1)
+        twice k = omega arith
+
+    hi : n < (2 * p + 1 + 1) * (2 * p + 1 + 1)
+    hi = omega (arith, b, h .1)
+
+    go : (t : Bool) → (T t → (2 * p + 1) * (2 * p + 1) ≤ n) → (T (not t) → n < (2 * p + 1) * (2 * p + 1)) → Floor n (cond t (2 * p + 1) (2 * p))
+    go true l g = (l tt, hi)
+    go false l g = (lo, g tt)
+
+quarter : (n p q : ℕ) → q * q ≡ 4 * (p * p) → n < q * q → n / 4 < p * p
+quarter n p q e h = omega arith
+
+digits-floor : (k n : ℕ) → n < 2 ^ k * 2 ^ k → Floor n (digits k n)
+unfolding digits
+digits-floor zero n h = (zero-le, h)
+digits-floor (suc k) n h =
+    step n (digits k (n / 4))
+    (digits-floor k (n / 4) (quarter n (2 ^ k) (2 ^ suc k) (ap (λ (z : ℕ). z * z) (pow-succ' 2 k) ∙ sq-twice (2 ^ k)) h))
+
+pub root-floor : (n : ℕ) → Floor n (root n)
+unfolding root
+root-floor n = digits-floor (size n) n (lt-of-lt-of-le (size-lt n) (le-trans (le-of-eq (sym (mul-one (2 ^ size n)))) (mul-le-mul-left (2 ^ size n) (pow-pos (size n)))))
+
+-- ---- there is one whole number nearest to a root
+
+pub near-le : (n t u : ℕ) → n ≤ t * t + t → u * u < n + u → u ≤ t
+near-le n t zero a b = zero-le
+near-le n t (suc u) a b = lt-of-not-le (λ (g : t ≤ u).
+    let m : t * suc t ≤ u * suc u = le-trans (mul-le-mul-left t (more t u g)) (mul-le-mul-right (suc u) g) in
+    no (u * suc u) (t * suc t) (suc u * suc u) (t * t) m (suc-mul u (suc u)) (mul-suc t t) a b)
+  where
+    more : (x y : ℕ) → x ≤ y → suc x ≤ suc y
+    more x y h = omega arith
+
+    no : (p q r s : ℕ) → q ≤ p → r ≡ p + suc u → q ≡ s + t → n ≤ s + t → r < n + suc u → ⊥
+    no p q r s h e f x y = omega arith
+
+pub near-unique : (n t u : ℕ) → NearRoot n t → NearRoot n u → t ≡ u
+near-unique n t u a b = le-antisymm (near-le n u t (b .under) (a .over)) (near-le n t u (a .under) (b .over))
+
+-- ---- what `compare` says
+abbrev Cmp : Ordering → ℕ → ℕ → Type 0
+Cmp Ordering·lt a b = a < b
+Cmp Ordering·eq a b = a ≡ b
+Cmp Ordering·gt a b = b < a
+
+cmp : (a b : ℕ) → Cmp (compare a b) a b
+cmp a b = go (compare a b) (leb→le a b) (nleb→lt a b) (eqb→eq a b) (λ (e : a ≡ b). subst (λ (x : ℕ). T (eqb a x)) e (eqb-refl a))
+  where
+    go : (o : Ordering) → (T (isLe o) → a ≤ b) → (T (not (isLe o)) → b < a) → (T (isEq o) → a ≡ b) → (a ≡ b → T (isEq o)) → Cmp o a b
+    go Ordering·lt h k e n = lt-of-le-ne (h tt) n
+    go Ordering·eq h k e n = e tt
+    go Ordering·gt h k e n = k tt
+
+-- q, the whole part of the root, or one more, by the comparison with the middle, is the nearest
+odd-square : (q : ℕ) → (2 * q + 1) * (2 * q + 1) ≡ 4 * (q * q) + 4 * q + 1
+odd-square q = sq-next (2 * q) ∙ go (sq-twice q)
+  where
+    go : 2 * q * (2 * q) ≡ 4 * (q * q) → 2 * q * (2 * q) + 2 * (2 * q) + 1 ≡ 4 * (q * q) + 4 * q + 1
+    go e = omega arith
+
+picked : (n q : ℕ) (o : Ordering) → 0 < q → Floor n q → Cmp o (4 * n) ((2 * q + 1) * (2 * q + 1)) → NearRoot n (nearest q o)
+picked n q Ordering·lt p h c =
+    let s = odd-square q in
+    record { under = omega (arith, h .0); over = omega (arith, h .0) }
+picked n q Ordering·eq p h c = absurd (go (odd-square q))
+  where
+    go : (2 * q + 1) * (2 * q + 1) ≡ 4 * (q * q) + 4 * q + 1 → ⊥
+    go s = omega arith
+picked n q Ordering·gt p h c =
+    let s = odd-square q in
+    let t = sq-next q in
+    let u : suc q * suc q ≡ (q + 1) * (q + 1) = ap (λ (k : ℕ). k * k) (one-more q) in
+    record { under = omega (arith, h .1); over = omega (arith, h .1) }
+  where
+    one-more : (k : ℕ) → suc k ≡ k + 1
+    one-more k = omega arith
+
+cmp-cancel : (o : Ordering) (a b k : ℕ) → 0 < k → Cmp o (a * k) (b * k) → Cmp o a b
+cmp-cancel Ordering·lt a b k K h = lt-of-mul-lt-mul-right k h
+cmp-cancel Ordering·eq a b k K h = eq-of-mul-eq-mul-right k K a b h
+cmp-cancel Ordering·gt a b k K h = lt-of-mul-lt-mul-right k h
+
+-- ---- the root of n * 4 ^ h has the digits of n's root, and h more
+
+size-is : (p h w : ℕ) → 0 < p → 2 ^ (p - 1 + h) ≤ w → w < 2 ^ (p + h) → size w - p ≡ h
+size-is p h w P lo hi = go (size w) (size-le w (p + h) hi) (lt-of-not-le (λ (g : size w ≤ p - 1 + h). not-le-of-lt (lt-of-lt-of-le (size-lt w) (pow-mono g)) lo))
+  where
+    go : (z : ℕ) → z ≤ p + h → p - 1 + h < z → z - p ≡ h
+    go z a b = omega arith
+
+here : (k : ℕ) → k < k + 1
+here k = omega arith
+
+down-one : (a b : ℕ) → a < b + 1 → a ≤ b
+down-one a b h = omega arith
+
+up-one : (a b : ℕ) → a < b → a + 1 ≤ b
+up-one a b h = omega arith
+
+module _ (p n h s w : ℕ) (P : 0 < p) (S : Floor n s) (W : Floor (n * (2 ^ h * 2 ^ h)) w) (lo : 2 ^ (p - 1) * 2 ^ (p - 1) ≤ n) (hi : n < 2 ^ p * 2 ^ p) where
+  s-ge : 2 ^ (p - 1) ≤ s
+  s-ge = down-one (2 ^ (p - 1)) s (sq-back (2 ^ (p - 1)) (s + 1) (lt-of-le-of-lt lo (S .1)))
+
+  s-lt : s < 2 ^ p
+  s-lt = sq-back s (2 ^ p) (lt-of-le-of-lt (S .0) hi)
+
+  w-ge : s * 2 ^ h ≤ w
+  w-ge = down-one (s * 2 ^ h) w (sq-back (s * 2 ^ h) (w + 1) (lt-of-le-of-lt (le-trans (le-of-eq (sq-scaled s (2 ^ h))) (mul-le-mul-right (2 ^ h * 2 ^ h) (S .0))) (W .1)))
+
+  w-lt : w < (s + 1) * 2 ^ h
+  w-lt = sq-back w ((s + 1) * 2 ^ h) (lt-of-le-of-lt (W .0) (lt-of-lt-of-le (mul-lt-mul-of-pos-right (S .1) (mul-pos (pow-pos h) (pow-pos h))) (le-of-eq (sym (sq-scaled (s + 1) (2 ^ h))))))
+
+  kept : w / 2 ^ h ≡ s
+  kept = div-eq-of-lt-le (2 ^ h) w-ge w-lt
+
+  dropped : size w - p ≡ h
+  dropped =
+      size-is p h w P
+      (le-trans (le-of-eq (pow-add 2 (p - 1) h)) (le-trans (mul-le-mul-right (2 ^ h) s-ge) w-ge))
+      (lt-of-lt-of-le w-lt (le-trans (mul-le-mul-right (2 ^ h) (up-one s (2 ^ p) s-lt)) (le-of-eq (sym (pow-add 2 p h)))))
+
+-- ---- `round-root`, from its n, its w and its k on
+abbrev middle : ℕ → ℕ → ℕ
+middle q k = (2 * q + 1) * 2 ^ k
+
+abbrev core : Format → ℕ → ℕ → ℕ → ℕ → Float
+core f n den w k = units f false (nearest (w / 2 ^ k) (compare (4 * n) (middle (w / 2 ^ k) k * middle (w / 2 ^ k) k * den))) k
+
+round-root-at : (f : Format) (num den : ℕ) → round-root f num den ≡ core f (num * 4 ^ low f) den (root (num * 4 ^ low f / den)) (size (root (num * 4 ^ low f / den)) - prec f)
+unfolding round-root
+round-root-at f num den = refl
+
+four-times : (n p d : ℕ) → 4 * (n * p * d) ≡ 4 * n * (p * d)
+four-times n p d = ap (λ (k : ℕ). 4 * k) (mul-assoc n p d) ∙ sym (mul-assoc 4 n (p * d))
+
+pub round-root-is : (f : Format) (num den n h t : ℕ) → 0 < den → num * 4 ^ low f ≡ n * (2 ^ h * 2 ^ h) * den → 2 ^ (prec f - 1) * 2 ^ (prec f - 1) ≤ n → n < 2 ^ prec f * 2 ^ prec f → NearRoot n t
+    → round-root f num den ≡ units f false t h
+round-root-is f num den n h t D H lo hi N =
+    let p = prec f in
+    let P : 0 < p = two-le-pos p (two f) in
+    let sq = 2 ^ h * 2 ^ h in
+    let s = root n in
+    let w = root (n * sq) in
+    let S = root-floor n in
+    let W = root-floor (n * sq) in
+    let o = compare (4 * (num * 4 ^ low f)) (middle s h * middle s h * den) in
+    let c : Cmp o (4 * n) ((2 * s + 1) * (2 * s + 1)) =
+    cmp-cancel o (4 * n) ((2 * s + 1) * (2 * s + 1)) (sq * den) (mul-pos (mul-pos (pow-pos h) (pow-pos h)) D)
+    (subst (λ (k : ℕ). Cmp o k ((2 * s + 1) * (2 * s + 1) * (sq * den))) (ap (λ (k : ℕ). 4 * k) H ∙ four-times n sq den)
+    (subst (λ (k : ℕ). Cmp o (4 * (num * 4 ^ low f)) k) (ap (λ (k : ℕ). k * den) (sq-scaled (2 * s + 1) (2 ^ h)) ∙ mul-assoc ((2 * s + 1) * (2 * s + 1)) sq den) (cmp (4 * (num * 4 ^ low f)) (middle s h * middle s h * den)))) in
+    round-root-at f num den
+    ∙ ap (λ (k : ℕ). core f (num * 4 ^ low f) den (root k) (size (root k) - p)) (ap (λ (k : ℕ). k / den) H ∙ mul-div-cancel (n * sq) D)
+    ∙ ap (λ (k : ℕ). core f (num * 4 ^ low f) den w k) (dropped p n h s w P S W lo hi)
+    ∙ ap (λ (q : ℕ). units f false (nearest q (compare (4 * (num * 4 ^ low f)) (middle q h * middle q h * den))) h) (kept p n h s w P S W lo hi)
+    ∙ ap (λ (q : ℕ). units f false q h) (near-unique n (nearest s o) t (picked n s o (lt-of-lt-of-le (pow-pos (p - 1)) (s-ge p n h s w P S W lo hi)) S c) N)
+
+-- ---- what the proofs of the integer functions cite
+
+pub sq-27 : (s : ℕ) → s < 2 ^ 27 → s * s ≤ (2 ^ 27 - 1) * (2 ^ 27 - 1)
+sq-27 s h = sq-mono (go s h)
+  where
+    go : (k : ℕ) → k < 2 ^ 27 → k ≤ 2 ^ 27 - 1
+    go k g = omega arith
+
+pub sq-up : (n s : ℕ) → n < 2 ^ 54 → 2 * s < n - s * s → ((s + 1) * (s + 1) ≤ n) × (s + 1 < 2 ^ 27)
+sq-up n s h l =
+    let e = sq-next s in
+    let a : (s + 1) * (s + 1) ≤ n = omega arith in
+    (a, sq-back (s + 1) (2 ^ 27) (lt-of-le-of-lt a h))
+
+pub sq-pos : (n s : ℕ) → n < s * s → 0 < s
+sq-pos n zero h = absurd (no n h)
+  where
+    no : (k : ℕ) → k < 0 → ⊥
+    no k g = omega arith
+sq-pos n (suc s) h = zero-lt-suc s
+
+-- ---- the next digits of a root, by a division: n = s * s + x, and x * b = q * (2 * s) + u
+next-digits : (n s b x q u : ℕ) → n ≡ s * s + x → x * b ≡ q * (2 * s) + u → n * (b * b) + q * q ≡ (s * b + q) * (s * b + q) + u * b
+next-digits n s b x q u h k =
+    let e1 : n * (b * b) ≡ s * s * (b * b) + x * (b * b) = ap (λ (z : ℕ). z * (b * b)) h ∙ add-mul (s * s) x (b * b) in
+    let e2 : x * (b * b) ≡ q * (2 * s) * b + u * b = sym (mul-assoc x b b) ∙ ap (λ (z : ℕ). z * b) k ∙ add-mul (q * (2 * s)) u b in
+    let e3 : (s * b + q) * (s * b + q) ≡ s * b * (s * b + q) + q * (s * b + q) = add-mul (s * b) q (s * b + q) in
+    let e4 : s * b * (s * b + q) ≡ s * b * (s * b) + s * b * q = mul-add (s * b) (s * b) q in
+    let e5 : q * (s * b + q) ≡ q * (s * b) + q * q = mul-add q (s * b) q in
+    let e6 : s * b * (s * b) ≡ s * s * (b * b) = sq-scaled s b in
+    let e7 : q * (2 * s) * b ≡ 2 * (s * b * q) = ap (λ (z : ℕ). z * b) (mul-left-comm q 2 s) ∙ mul-assoc 2 (q * s) b ∙ ap (λ (z : ℕ). 2 * z) (mul-assoc q s b ∙ mul-comm q (s * b)) in
+    let e8 : q * (s * b) ≡ s * b * q = mul-comm q (s * b) in
+    omega arith
+
+sq-pred : (t : ℕ) → 0 < t → (t - 1) * (t - 1) + 2 * t ≡ t * t + 1
+sq-pred t h =
+    let e = sq-next (t - 1) in
+    let f : (t - 1 + 1) * (t - 1 + 1) ≡ t * t = ap (λ (z : ℕ). z * z) (go t h) in
+    omega arith
+  where
+    go : (k : ℕ) → 0 < k → k - 1 + 1 ≡ k
+    go k p = omega arith
+
+-- the body of `nearest_root`, with s for what `whole_root` returned
+abbrev pub r-of : ℕ → ℕ → ℕ
+r-of n s = (n - s * s) * 67108864
+
+abbrev pub q-of : ℕ → ℕ → ℕ
+q-of n s = r-of n s / (2 * s)
+
+abbrev pub u-of : ℕ → ℕ → ℕ
+u-of n s = r-of n s % (2 * s)
+
+abbrev pub t-of : ℕ → ℕ → ℕ
+t-of n s = s * 67108864 + q-of n s
+
+-- the bounds that keep each step within 64 bits
+pub record Bounds (n s : ℕ) : Type 0 where
+  pub s-ge : 2 ^ 26 ≤ s
+  pub s-lt : s < 2 ^ 27
+  pub r-le : r-of n s ≤ 2 * s * 67108864
+  pub q-le : q-of n s ≤ 67108864
+  pub u-lt : u-of n s < 2 * s
+  pub d-le : q-of n s * q-of n s ≤ 67108864 * 67108864
+  pub t-ge : 67108864 * 67108864 ≤ t-of n s
+
+module _ (n s : ℕ) (lo : 2 ^ 52 ≤ n) (hi : n < 2 ^ 54) (S : s * s ≤ n) (R : n ≤ s * s + 2 * s) where
+  root-ge′ : 2 ^ 26 ≤ s
+  root-ge′ =
+      let e = sq-next s in
+      let a : n < (s + 1) * (s + 1) = omega arith in
+      down-one (2 ^ 26) s (sq-back (2 ^ 26) (s + 1) (lt-of-le-of-lt lo a))
+
+  root-lt′ : s < 2 ^ 27
+  root-lt′ = sq-back s (2 ^ 27) (lt-of-le-of-lt S hi)
+
+  D : 0 < 2 * s
+  D = omega (arith, root-ge′)
+
+  r-le′ : (r-of n s) ≤ 2 * s * 67108864
+  r-le′ = mul-le-mul-right 67108864 (go (s * s) S R)
+    where
+      go : (k : ℕ) → k ≤ n → n ≤ k + 2 * s → n - k ≤ 2 * s
+      go k a b = omega arith
+
+  q-le′ : (q-of n s) ≤ 67108864
+  q-le′ = div-le-of-le-mul (2 * s) r-le′
+
+  u-lt′ : (u-of n s) < 2 * s
+  u-lt′ = mod-lt (r-of n s) D
+
+  d-le′ : (q-of n s) * (q-of n s) ≤ 67108864 * 67108864
+  d-le′ = sq-mono q-le′
+
+  t-ge′ : 67108864 * 67108864 ≤ (t-of n s)
+  t-ge′ = omega (arith, root-ge′)
+
+  pub bounds : Bounds n s
+  bounds = record { s-ge = root-ge′; s-lt = root-lt′; r-le = r-le′; q-le = q-le′; u-lt = u-lt′; d-le = d-le′; t-ge = t-ge′ }
+
+  main : n * 2 ^ 52 + (q-of n s) * (q-of n s) ≡ (t-of n s) * (t-of n s) + (u-of n s) * 67108864
+  main = next-digits n s 67108864 (n - s * s) (q-of n s) (u-of n s) (go (s * s) S) (sym (div-add-mod' (r-of n s) (2 * s)))
+    where
+      go : (k : ℕ) → k ≤ n → n ≡ k + (n - k)
+      go k a = omega arith
+
+  c-le : (u-of n s) * 67108864 ≤ 2 * (t-of n s)
+  c-le = omega (arith, u-lt′)
+
+  pub near-up : (q-of n s) * (q-of n s) + (t-of n s) < (u-of n s) * 67108864 → NearRoot (n * 2 ^ 52) ((t-of n s) + 1)
+  near-up h = go (n * 2 ^ 52) ((q-of n s) * (q-of n s)) (t-of n s) ((u-of n s) * 67108864) main c-le h (sq-next (t-of n s))
+    where
+      go : (x d t c : ℕ) → x + d ≡ t * t + c → c ≤ 2 * t → d + t < c → (t + 1) * (t + 1) ≡ t * t + 2 * t + 1 → NearRoot x (t + 1)
+      go x d t c m l k e = record { under = omega arith; over = omega arith }
+
+  pub near-same : (u-of n s) * 67108864 ≤ (q-of n s) * (q-of n s) + (t-of n s) → (q-of n s) * (q-of n s) < (u-of n s) * 67108864 + (t-of n s) → NearRoot (n * 2 ^ 52) (t-of n s)
+  near-same h k = go (n * 2 ^ 52) ((q-of n s) * (q-of n s)) (t-of n s) ((u-of n s) * 67108864) main h k
+    where
+      go : (x d t c : ℕ) → x + d ≡ t * t + c → c ≤ d + t → d < c + t → NearRoot x t
+      go x d t c m a b = record { under = omega arith; over = omega arith }
+
+  pub near-down : (u-of n s) * 67108864 + (t-of n s) ≤ (q-of n s) * (q-of n s) → NearRoot (n * 2 ^ 52) ((t-of n s) - 1)
+  near-down h = go (n * 2 ^ 52) ((q-of n s) * (q-of n s)) (t-of n s) ((u-of n s) * 67108864) main h d-le′ t-ge′ (sq-pred (t-of n s) (omega (arith, t-ge′)))
+    where
+      go : (x d t c : ℕ) → x + d ≡ t * t + c → c + t ≤ d → d ≤ 67108864 * 67108864 → 67108864 * 67108864 ≤ t → (t - 1) * (t - 1) + 2 * t ≡ t * t + 1 → NearRoot x (t - 1)
+      go x d t c m a b l e = record { under = omega arith; over = omega arith }
+
+-- ---- the body of `root_bits`: n is m or 2 * m, by the parity of e
+pub record Scaled (m e n : ℕ) : Type 0 where
+  pub same : n * 2 ^ 52 ≡ m * 2 ^ (52 + e % 2)
+  pub from : 2 ^ 52 ≤ n
+  pub below : n < 2 ^ 54
+
+pub scaled-even : (m e n : ℕ) → 2 ^ 52 ≤ m → m < 2 ^ 53 → e % 2 ≡ 0 → n ≡ m → Scaled m e n
+scaled-even m e n lo hi p q =
+    record {
+      same = ap (λ (k : ℕ). k * 2 ^ 52) q ∙ ap (λ (k : ℕ). m * 2 ^ (52 + k)) (sym p);
+      from = omega arith;
+      below = omega arith;
+    }
+
+pub scaled-odd : (m e n : ℕ) → 2 ^ 52 ≤ m → m < 2 ^ 53 → (e % 2 ≡ 0 → ⊥) → n ≡ 2 * m → Scaled m e n
+scaled-odd m e n lo hi p q =
+    record {
+      same = ap (λ (k : ℕ). k * 2 ^ 52) q ∙ twice m ∙ ap (λ (k : ℕ). m * 2 ^ (52 + k)) (sym (one e p));
+      from = omega arith;
+      below = omega arith;
+    }
+  where
+    twice : (k : ℕ) → 2 * k * 2 ^ 52 ≡ k * 2 ^ 53
+    twice k = omega arith
+
+    one : (k : ℕ) → (k % 2 ≡ 0 → ⊥) → k % 2 ≡ 1
+    one k h = omega arith
+
+-- a nearest root of what lies from 2 ^ 104 up and below 2 ^ 106
+pub near-range : (n t : ℕ) → 2 ^ 104 ≤ n → n < 2 ^ 106 → NearRoot n t → (2 ^ 52 ≤ t) × (t ≤ 2 ^ 53)
+near-range n t lo hi N = (near-le n t (2 ^ 52) (N .under) (low-end n lo), near-le n (2 ^ 53) t (high-end n hi) (N .over))
+  where
+    low-end : (k : ℕ) → 2 ^ 104 ≤ k → 2 ^ 52 * 2 ^ 52 < k + 2 ^ 52
+    low-end k h = omega arith
+
+    high-end : (k : ℕ) → k < 2 ^ 106 → k ≤ 2 ^ 53 * 2 ^ 53 + 2 ^ 53
+    high-end k h = omega arith
+
+pub near-range-at : (n t : ℕ) → 2 ^ 52 ≤ n → n < 2 ^ 54 → NearRoot (n * 2 ^ 52) t → (2 ^ 52 ≤ t) × (t ≤ 2 ^ 53)
+near-range-at n t lo hi N = near-range (n * 2 ^ 52) t (a n lo) (b n hi) N
+  where
+    a : (k : ℕ) → 2 ^ 52 ≤ k → 2 ^ 104 ≤ k * 2 ^ 52
+    a k h = omega arith
+
+    b : (k : ℕ) → k < 2 ^ 54 → k * 2 ^ 52 < 2 ^ 106
+    b k h = omega arith
+
+-- ---- a root has a nearest whole number
+pub near-exists : (n : ℕ) → 0 < n → (t : ℕ) × NearRoot n t
+near-exists n h =
+    let q = root n in
+    let o = compare (4 * n) ((2 * q + 1) * (2 * q + 1)) in
+    (nearest q o, picked n q o (positive q (root-floor n)) (root-floor n) (cmp (4 * n) ((2 * q + 1) * (2 * q + 1))))
+  where
+    positive : (q : ℕ) → Floor n q → 0 < q
+    positive zero f = absurd (go (f .1))
+      where
+        go : n < 1 → ⊥
+        go l = omega arith
+    positive (suc q) f = zero-lt-suc q
+
+-- the middles to both sides of t
+pub middle-above : (n t : ℕ) → NearRoot n t → 4 * n ≤ (2 * t + 1) * (2 * t + 1)
+middle-above n t N =
+    let s = odd-square t in
+    let a = N .under in
+    omega arith
+
+pub middle-below : (n t : ℕ) → 0 < t → NearRoot n t → (2 * t - 1) * (2 * t - 1) ≤ 4 * n
+middle-below n t p N =
+    let s = sq-pred (2 * t) (double t p) in
+    let u = sq-twice t in
+    let a = N .over in
+    omega arith
+  where
+    double : (k : ℕ) → 0 < k → 0 < 2 * k
+    double k h = omega arith
+
+pub squares-le : {a b : ℕ} → a ≤ b → a * a ≤ b * b
+squares-le h = sq-mono h
+
+pub square-of : (a p : ℕ) → a * p * (a * p) ≡ a * a * (p * p)
+square-of a p = sq-scaled a p

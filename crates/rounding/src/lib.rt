@@ -1,0 +1,147 @@
+// IEEE 754's square root, ceiling and rounding to a whole number (halves away from zero), for every
+// f64. They refuse nothing: a NaN gives a NaN, and a number below zero has a NaN for its root.
+ghost use mathlib.Core.Path.{_≡_};
+ghost use Prim.Native.Nat.{ℕ, _+_, _-_, _*_, _/_, _%_, _^_, _≤_, _<_};
+ghost use mathlib.Core.Bool.{false};
+ghost use lib.IntN.{pos};
+ghost use lib.Dec.{T};
+ghost use lib.Ieee.{binary64, fin, lt};
+ghost use Rattle.rounding.specs.Whole as Whole;
+ghost use Rattle.rounding.specs.Root as Root;
+
+// The least whole number that is not below x. From 2^52 on an f64 has no fraction.
+pub fn ceil(x: f64) -> f64
+    ensures { λ r. ⌜ r ≡ Whole.ceil binary64 x ⌝ }
+{
+    if x > 0.0 {
+        if x < 4503599627370496.0 {
+            let w = std::num::truncating_f64_to_u64(x);
+            let y = w as f64;
+            if y < x { (w + 1) as f64 } else { y }
+        } else {
+            x
+        }
+    } else if x < 0.0 {
+        if x > -4503599627370496.0 {
+            -(std::num::truncating_f64_to_u64(-x) as f64)
+        } else {
+            x
+        }
+    } else {
+        x
+    }
+}
+
+// The whole number nearest to a, halves up. The sum y + 0.5 is exact below 2^52, while a + 0.5 is not:
+// it would take the f64 next below a half to 1.
+fn nearest_up(a: f64) -> f64
+    requires { ⌜ T (lt (fin false 0 (pos 0)) a) ⌝ ∗ ⌜ T (lt a (fin false 1 (pos 52))) ⌝ }
+    ensures { λ r. ⌜ r ≡ Whole.«round-away» binary64 a ⌝ }
+{
+    let w = std::num::truncating_f64_to_u64(a);
+    let y = w as f64;
+    if a < y + 0.5 { y } else { (w + 1) as f64 }
+}
+
+// The whole number nearest to x, halves away from zero.
+pub fn round(x: f64) -> f64
+    ensures { λ r. ⌜ r ≡ Whole.«round-away» binary64 x ⌝ }
+{
+    if x > 0.0 {
+        if x < 4503599627370496.0 {
+            nearest_up(x)
+        } else {
+            x
+        }
+    } else if x < 0.0 {
+        if x > -4503599627370496.0 {
+            -nearest_up(-x)
+        } else {
+            x
+        }
+    } else {
+        x
+    }
+}
+
+// About the root of n, by a polynomial and two of Newton's steps. Only the time that `whole_root` takes
+// depends on how near it is.
+fn guess(n: u64) -> u64
+    requires { ⌜ n < 2 ^ 54 ⌝ }
+    ensures { λ r. ⌜ r < 2 ^ 27 ⌝ }
+{
+    let v = n >> 38;
+    let a = 68945 - ((20730 * v) >> 16);
+    let g = 16992 + ((a * v) >> 16);
+    let h = (g * 2048 + (n >> 11) / g) >> 1;
+    let i = (h + n / h) >> 1;
+    if i < 134217728 { i } else { 134217727 }
+}
+
+// The largest s with s * s <= n.
+fn whole_root(n: u64) -> u64
+    requires { ⌜ n < 2 ^ 54 ⌝ }
+    ensures { λ s. ⌜ (s * s ≤ n) × (n ≤ s * s + 2 * s) ⌝ }
+{
+    let mut s = guess(n);
+    while n < s * s {
+        s -= 1;
+    }
+    while 2 * s < n - s * s {
+        s += 1;
+    }
+    s
+}
+
+// The whole number nearest to the root of n * 2^52, for an n from 2^52 up and below 2^54.
+// With s the whole part of n's root, n = s * s + r. The next digits are q = r * 2^26 / (2 * s), with u
+// left over: n * 2^52 = t * t + u * 2^26 - q * q for t = s * 2^26 + q.
+fn nearest_root(n: u64) -> u64
+    requires { ⌜ (2 ^ 52 ≤ n) × (n < 2 ^ 54) ⌝ }
+    ensures { λ t. ⌜ Root.NearRoot (n * 2 ^ 52) t ⌝ }
+{
+    let s = whole_root(n);
+    let r = (n - s * s) * 67108864;
+    let q = r / (2 * s);
+    let c = (r % (2 * s)) * 67108864;
+    let t = s * 67108864 + q;
+    let d = q * q;
+    if d + t < c {
+        t + 1
+    } else if d < c + t {
+        t
+    } else {
+        t - 1
+    }
+}
+
+// The pattern of the root of m * 2^e / 2^1126, for an m from 2^52 up and below 2^53.
+fn root_bits(m: u64, e: u64) -> u64
+    requires { ⌜ (2 ^ 52 ≤ m) × (m < 2 ^ 53) × (e < 2098) ⌝ }
+    ensures { λ r. ⌜ ((t : ℕ) × Root.NearRoot (m * 2 ^ (52 + e % 2)) t × (r ≡ (e / 2 + 485) * 2 ^ 52 + t)) ⌝ }
+{
+    let n = if e % 2 == 0 { m } else { 2 * m };
+    (e / 2 + 485) * 4503599627370496 + nearest_root(n)
+}
+
+// The root of x, rounded to the nearest f64. A zero is its own root, and a number below zero has none.
+pub fn sqrt(x: f64) -> f64
+    ensures { λ r. ⌜ r ≡ Root.sqrt binary64 x ⌝ }
+{
+    if x > 0.0 {
+        let b: u64 = f64::to_bits(x);
+        let field = b >> 52;
+        if field == 2047 {
+            x
+        } else if field == 0 {
+            let z = u64::leading_zeros(b);
+            f64::from_bits(root_bits(b << (z - 11), 63 - z as u64))
+        } else {
+            f64::from_bits(root_bits((b & 0xf_ffff_ffff_ffff) | 0x10_0000_0000_0000, field + 51))
+        }
+    } else if x < 0.0 {
+        0.0 / 0.0
+    } else {
+        x
+    }
+}
