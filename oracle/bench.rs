@@ -1,0 +1,66 @@
+//! Nanoseconds of a call, the port's and the Rust's, on the same inputs, in turns.
+
+use std::hint::black_box;
+use std::time::Instant;
+
+use crate::compare::drawer;
+use crate::entry::{Call, Entry, UNTOUCHED};
+
+const INPUTS: usize = 4096;
+const ROUNDS: usize = 15;
+
+/// Calls over all inputs take this many nanoseconds each.
+fn time(call: Call, inputs: &[f64], takes: usize, out: &mut [f64]) -> f64 {
+    let repeat = 8;
+    let start = Instant::now();
+    for _ in 0..repeat {
+        for input in inputs.chunks_exact(takes) {
+            black_box(call(black_box(input), out));
+        }
+    }
+    start.elapsed().as_nanos() as f64 / (repeat * inputs.len() / takes) as f64
+}
+
+/// The best of several rounds of each call, taken in turns.
+fn best<const N: usize>(calls: [Call; N], inputs: &[f64], takes: usize, out: &mut [f64]) -> [f64; N] {
+    let mut least = [f64::INFINITY; N];
+    for call in calls {
+        time(call, inputs, takes, out);
+    }
+    for _ in 0..ROUNDS {
+        for (least, call) in least.iter_mut().zip(calls) {
+            *least = least.min(time(call, inputs, takes, out));
+        }
+    }
+    least
+}
+
+pub fn bench(entries: &[&Entry], seed: u64) -> bool {
+    let [empty] = best([|_, _| 0], &[1.0; INPUTS], 1, &mut []);
+    println!("ns per call, the best of {ROUNDS} rounds over {INPUTS} accepted inputs of a class; an empty call takes {empty:.1}");
+    println!("{:<15} {:<38} {:>8} {:>8} {:>6}", "NAME", "class", "port", "Rust", "ratio");
+    for e in entries {
+        for (class, draw) in e.classes {
+            let mut d = drawer(e, class, seed);
+            let (mut input, mut out) = (vec![0.0; e.takes], vec![UNTOUCHED; e.gives]);
+            let mut inputs = Vec::new();
+            // A class of which hardly any is accepted is no measure of the accepted path.
+            for _ in 0..4 * INPUTS {
+                draw(&mut d, &mut input);
+                if inputs.len() < INPUTS * e.takes && (e.second)(&input, &mut out) == 0 {
+                    inputs.extend_from_slice(&input);
+                }
+            }
+            if inputs.len() == INPUTS * e.takes {
+                let [port, rust] = best([e.port, e.rust], &inputs, e.takes, &mut out);
+                println!("{:<15} {class:<38} {port:>8.1} {rust:>8.1} {:>6.2}", e.name, port / rust);
+            }
+        }
+    }
+    for (name, call) in crate::rounding::OTHER_RIVALS {
+        let inputs: Vec<f64> = (0..INPUTS).map(|k| k as f64 * 0.37 - 700.0).collect();
+        let [rust] = best([*call], &inputs, 1, &mut [0.0]);
+        println!("{name:<15} {:<38} {:>8} {rust:>8.1}", "beside these", "");
+    }
+    true
+}
