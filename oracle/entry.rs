@@ -57,3 +57,13 @@ pub(crate) use entry;
 
 /// Fills what a call has not written yet, so that a write is seen. No result of ours is likely to be this number.
 pub const UNTOUCHED: f64 = f64::from_bits(0x8123_4567_89ab_cdef);
+
+/// The N inputs from the k-th on.
+pub fn at<const N: usize>(i: &[f64], k: usize) -> &[f64; N] {
+    i[k..k + N].try_into().unwrap()
+}
+
+/// The first N outputs.
+pub fn out<const N: usize>(o: &mut [f64]) -> &mut [f64; N] {
+    (&mut o[..N]).try_into().unwrap()
+}

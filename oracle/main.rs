@@ -21,6 +21,7 @@ use profile_arc::ProfileArc;
 mod bench;
 mod compare;
 mod draw;
+mod elementary;
 mod entry;
 mod rounding;
 
@@ -28,7 +29,7 @@ use entry::Entry;
 
 /// The entries that the port's library has, group by group.
 fn entries() -> Vec<&'static Entry> {
-    [rounding::ENTRIES].into_iter().flatten().filter(|e| !missing::MISSING.contains(&e.port_name)).collect()
+    [rounding::ENTRIES, elementary::ENTRIES].into_iter().flatten().filter(|e| !missing::MISSING.contains(&e.port_name)).collect()
 }
 
 struct Options {
