@@ -78,7 +78,7 @@ pub fn drawer(e: &Entry, class: &str, seed: u64) -> Draw {
 }
 
 pub fn compare(entries: &[&Entry], count: Option<u64>, seed: u64) -> bool {
-    println!("{:<15} {:<38} {:>10} {:>10} {:>13} {:>9}", "NAME", "class", "compared", "equal", "refused alike", "different");
+    println!("{:<15} {:<38} {:>10} {:>10} {:>13} {:>9}  {}", "NAME", "class", "compared", "equal", "refused alike", "different", "by");
     let mut different = 0;
     for e in entries {
         let each = count.unwrap_or(e.full).div_ceil(e.classes.len() as u64);
@@ -86,12 +86,16 @@ pub fn compare(entries: &[&Entry], count: Option<u64>, seed: u64) -> bool {
         let mut shown = false;
         for (class, draw) in e.classes {
             let (mut equal, mut refused, mut wrong) = (0u64, 0u64, 0u64);
+            let mut numbers = std::collections::BTreeSet::new();
             let mut d = drawer(e, class, seed);
             for _ in 0..each {
                 draw(&mut d, &mut trial.input);
                 match trial.run(e) {
                     Verdict::Equal => equal += 1,
-                    Verdict::RefusedAlike => refused += 1,
+                    Verdict::RefusedAlike => {
+                        refused += 1;
+                        numbers.insert(trial.second.0);
+                    }
                     Verdict::Different => {
                         wrong += 1;
                         if !shown {
@@ -101,7 +105,8 @@ pub fn compare(entries: &[&Entry], count: Option<u64>, seed: u64) -> bool {
                     }
                 }
             }
-            println!("{:<15} {class:<38} {each:>10} {equal:>10} {refused:>13} {wrong:>9}", e.name);
+            let by: Vec<String> = numbers.iter().map(u32::to_string).collect();
+            println!("{:<15} {class:<38} {each:>10} {equal:>10} {refused:>13} {wrong:>9}  {}", e.name, by.join(" "));
             different += wrong;
         }
     }

@@ -63,9 +63,24 @@ impl Draw {
         f64::from_bits((self.bits() & (1 << 63)) | (self.bits() >> (12 + length)))
     }
 
+    /// A unit vector, up to rounding; every third along a coordinate.
+    pub fn direction(&mut self) -> [f64; 3] {
+        let mut v = [0.0; 3];
+        if self.below(3) == 0 {
+            v[self.below(3) as usize] = self.sign();
+            return v;
+        }
+        v.fill_with(|| self.between(-1.0, 1.0));
+        let length = v.iter().map(|x| x * x).sum::<f64>().sqrt();
+        v.map(|x| x / length)
+    }
+
     /// A number up to `ulps` steps from x.
     pub fn near(&mut self, x: f64, ulps: u64) -> f64 {
         let step = self.whole(-(ulps as i64), ulps as i64);
+        if x == 0.0 && step != 0 {
+            return f64::from_bits(step.unsigned_abs()) * step.signum() as f64;
+        }
         f64::from_bits(x.to_bits().wrapping_add(step as u64))
     }
 }

@@ -18,18 +18,24 @@ mod profile_arc;
 use plane::Plane;
 use profile_arc::ProfileArc;
 
+mod arcs;
 mod bench;
+mod classes;
 mod compare;
 mod draw;
 mod elementary;
 mod entry;
+mod motions;
 mod rounding;
+mod track;
+mod vectors;
 
 use entry::Entry;
 
 /// The entries that the port's library has, group by group.
 fn entries() -> Vec<&'static Entry> {
-    [rounding::ENTRIES, elementary::ENTRIES].into_iter().flatten().filter(|e| !missing::MISSING.contains(&e.port_name)).collect()
+    let groups = [rounding::ENTRIES, elementary::ENTRIES, vectors::ENTRIES, motions::ENTRIES, arcs::ENTRIES];
+    groups.into_iter().flatten().filter(|e| !missing::MISSING.contains(&e.port_name)).collect()
 }
 
 struct Options {

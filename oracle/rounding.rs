@@ -26,7 +26,7 @@ mod rust {
     }
 }
 
-mod second {
+pub mod second {
     #[inline(never)]
     pub fn sqrt(x: f64) -> f64 {
         libm::sqrt(x)

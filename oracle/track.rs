@@ -1,0 +1,208 @@
+//! A second reading of the refusals by the arithmetic: numbers that carry the first refusal they depend on.
+//!
+//! A number is met by a refusal where it is produced: by 9 if it is not finite, by 8 as the sine or cosine of an angle
+//! too large, by 10 as a count too large. What is worked out from it carries that on; of two, the one met earlier. A
+//! comparison that decides the way goes into the `Path`, which the results of that way depend on.
+
+use std::cell::Cell;
+use std::ops::{Add, Div, Mul, Neg, Sub};
+
+thread_local!(static MET: Cell<u64> = const { Cell::new(0) });
+
+/// A refusal that was met: when, and below it the number. `NONE` is later than all.
+type Met = u64;
+const NONE: Met = u64::MAX;
+
+fn meet(number: u64) -> Met {
+    MET.set(MET.get() + 1);
+    MET.get() << 8 | number
+}
+
+#[derive(Clone, Copy)]
+pub struct Num {
+    pub value: f64,
+    met: Met,
+}
+
+/// A number at hand: handed in, tried already, or a literal.
+pub fn num(value: f64) -> Num {
+    Num { value, met: NONE }
+}
+
+/// A number produced from what was met before.
+fn produced(value: f64, met: Met) -> Num {
+    Num { value, met: if met == NONE && !value.is_finite() { meet(9) } else { met } }
+}
+
+impl Add for Num {
+    type Output = Num;
+    fn add(self, o: Num) -> Num {
+        produced(self.value + o.value, self.met.min(o.met))
+    }
+}
+
+impl Sub for Num {
+    type Output = Num;
+    fn sub(self, o: Num) -> Num {
+        produced(self.value - o.value, self.met.min(o.met))
+    }
+}
+
+impl Mul for Num {
+    type Output = Num;
+    fn mul(self, o: Num) -> Num {
+        produced(self.value * o.value, self.met.min(o.met))
+    }
+}
+
+impl Div for Num {
+    type Output = Num;
+    fn div(self, o: Num) -> Num {
+        produced(self.value / o.value, self.met.min(o.met))
+    }
+}
+
+impl Neg for Num {
+    type Output = Num;
+    fn neg(self) -> Num {
+        Num { value: -self.value, met: self.met }
+    }
+}
+
+impl Num {
+    pub fn sqrt(self) -> Num {
+        produced(self.value.sqrt(), self.met)
+    }
+
+    pub fn ceil(self) -> Num {
+        produced(self.value.ceil(), self.met)
+    }
+
+    pub fn acos(self) -> Num {
+        produced(libm::acos(self.value), self.met)
+    }
+
+    pub fn atan2(self, x: Num) -> Num {
+        produced(libm::atan2(self.value, x.value), self.met.min(x.met))
+    }
+
+    pub fn sincos(self) -> (Num, Num) {
+        let angle = self.value;
+        let too_large = angle.is_finite() && angle.abs() > 1_048_576.0;
+        let met = if self.met == NONE && too_large { meet(8) } else { self.met };
+        let (s, c) = libm::sincos(angle);
+        (produced(s, met), produced(c, met))
+    }
+
+    /// A quotient that may be infinite, since a clamp follows that takes it.
+    pub fn over_clamped(self, o: Num) -> Num {
+        let value = self.value / o.value;
+        let met = self.met.min(o.met);
+        if value.is_infinite() { Num { value, met } } else { produced(value, met) }
+    }
+
+    /// Rounded up and held between `low` and `high`.
+    pub fn ceil_clamp(self, low: f64, high: f64) -> Num {
+        produced(self.value.ceil().clamp(low, high), self.met)
+    }
+}
+
+/// What the way taken so far, and its results, have met.
+pub struct Path(Met);
+
+impl Path {
+    pub fn new() -> Self {
+        Path(NONE)
+    }
+
+    pub fn reads(&mut self, x: Num) -> f64 {
+        self.0 = self.0.min(x.met);
+        x.value
+    }
+
+    /// A count of chords or pieces, already whole and at least 1.
+    pub fn count(&mut self, x: Num) -> u64 {
+        let n = self.reads(x);
+        if self.0 == NONE && n > 65_535.0 {
+            self.0 = meet(10);
+        }
+        n as u64
+    }
+
+    /// The refusal due, 0 for none.
+    pub fn due(&self) -> u32 {
+        if self.0 == NONE { 0 } else { (self.0 & 0xff) as u32 }
+    }
+}
+
+#[derive(Clone, Copy)]
+pub struct Vec3 {
+    pub x: Num,
+    pub y: Num,
+    pub z: Num,
+}
+
+pub fn vec3(v: &[f64]) -> Vec3 {
+    Vec3 { x: num(v[0]), y: num(v[1]), z: num(v[2]) }
+}
+
+impl Vec3 {
+    pub fn dot(self, o: Vec3) -> Num {
+        self.x * o.x + self.y * o.y + self.z * o.z
+    }
+
+    pub fn cross(self, o: Vec3) -> Vec3 {
+        Vec3 { x: self.y * o.z - self.z * o.y, y: self.z * o.x - self.x * o.z, z: self.x * o.y - self.y * o.x }
+    }
+
+    pub fn read(self, path: &mut Path) -> [f64; 3] {
+        [path.reads(self.x), path.reads(self.y), path.reads(self.z)]
+    }
+}
+
+impl Add for Vec3 {
+    type Output = Vec3;
+    fn add(self, o: Vec3) -> Vec3 {
+        Vec3 { x: self.x + o.x, y: self.y + o.y, z: self.z + o.z }
+    }
+}
+
+impl Sub for Vec3 {
+    type Output = Vec3;
+    fn sub(self, o: Vec3) -> Vec3 {
+        Vec3 { x: self.x - o.x, y: self.y - o.y, z: self.z - o.z }
+    }
+}
+
+impl Mul<Num> for Vec3 {
+    type Output = Vec3;
+    fn mul(self, k: Num) -> Vec3 {
+        Vec3 { x: self.x * k, y: self.y * k, z: self.z * k }
+    }
+}
+
+impl Neg for Vec3 {
+    type Output = Vec3;
+    fn neg(self) -> Vec3 {
+        Vec3 { x: -self.x, y: -self.y, z: -self.z }
+    }
+}
+
+/// Number 1: whether a number handed in is finite and at most 1,048,576 in magnitude.
+pub fn in_range(numbers: &[&[f64]]) -> bool {
+    numbers.iter().all(|row| row.iter().all(|x| x.is_finite() && x.abs() <= 1_048_576.0))
+}
+
+/// The answer of an entry: the refusal due, or the numbers written.
+pub fn answer<const N: usize>(out: &mut [f64; N], numbers: [Num; N]) -> u32 {
+    let mut path = Path::new();
+    let values = numbers.map(|x| path.reads(x));
+    if path.due() == 0 {
+        *out = values;
+    }
+    path.due()
+}
+
+pub fn answer_vec3(out: &mut [f64; 3], v: Vec3) -> u32 {
+    answer(out, [v.x, v.y, v.z])
+}
