@@ -62,7 +62,11 @@ impl Trial {
         println!("  refusal: port {}, due {}", self.port.0, self.second.0);
         for k in 0..e.gives {
             let (p, r, s) = (self.port.1[k], self.rust[k], self.second.1[k]);
-            if !(alike(p, r, e.zeros_alike) && alike(p, s, false)) {
+            let refused = self.second.0 != 0;
+            if refused && p.to_bits() != s.to_bits() {
+                println!("  output {k}: port {:016x} {p:e}, was {:016x} {s:e}", p.to_bits(), s.to_bits());
+            }
+            if !refused && !(alike(p, r, e.zeros_alike) && alike(p, s, false)) {
                 println!("  output {k}: port {:016x} {p:e}", p.to_bits());
                 println!("            Rust {:016x} {r:e}", r.to_bits());
                 println!("            second reading {:016x} {s:e}", s.to_bits());
