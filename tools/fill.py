@@ -9,6 +9,10 @@ Run in the repository. It runs `rt dev CRATE` (whose output names each file to w
 Where the crate's specs/Laws.antt has a law `NAME-refusal` of a definition `NAMEC` (its refusal in the notes that suffice),
 a refusal is proved by it, and else by the rules.
 It unfolds the crate's own unfoldable definitions that the function's `ensures` name.
+The outcome of a test of two whole numbers goes in as each test of a definition that it settles (`a < b` as `ltb a b` and
+as `leb b a`), and what a call that gives a whole number ensures goes in from right to left: the definition's word
+becomes the number that the code tested. With --trim it checks the files it wrote once more and drops from them each fact
+that `simp` never applied.
 The rules are the ruleset `rules` of each Laws.antt in the specs/ of the crate and of the crates that it needs, if there.
 A function with a loop keeps the holes of its invariant and measure. What does not close is left for you to edit.
 """
@@ -60,17 +64,38 @@ def unfoldables(crate, own):
             out[name] = mod
     return out
 
+class Outcome(list):
+    """the fields of a test's place, with the laws of its outcome, and whether what is tested is the last call's result"""
+    def __init__(self, fields, type, lts):
+        super().__init__(fields)
+        self.laws = kind(type)
+        state = re.search(r'\((m\d+) ', type)
+        made = state and re.search(rf'^ +{state.group(1)} =\s*(.*?)\n\n', lts, re.M | re.S)
+        self.direct = bool(made and re.search(r'\.next \(.*\) given$', made.group(1), re.S))
+
+def kind(type):
+    """of the outcome of a test: the laws that turn it into the definition's tests; none for a test that is a bool"""
+    if 'Nat._<_' in type:
+        return ['lt-ltb', 'lt-leb']
+    if 'Nat._≤_' in type:
+        return ['le-leb', 'le-ltb']
+    if '{A = Nat.ℕ}' in type:
+        return ['ne-eqb'] if '⊥' in type else ['eq-eqb']
+    return []
+
 def places(lts):
     """need -> the places on the way, the latest first: (path, field, own fields)"""
     recs = {}
     for m in re.finditer(r'pub record (\S+) : Type 0 where\n((?: +pub .*\n(?: {8,}.*\n)*)+)', lts):
-        recs[m.group(1)] = re.findall(r'^ +pub (\S+) : (.*)$', m.group(2), re.M)
+        recs[m.group(1)] = re.findall(r'^ +pub (\S+) : (.*(?:\n {12,}.*)*)$', m.group(2), re.M)
     out = {}
     for m in re.finditer(r'Need-(\S+) =\s+\(c : ([^)\s]+)', lts):
         at, path, way = m.group(2), 'c', []
         while at in recs:
             fields = dict(recs[at])
             own = [k for k, _ in recs.get(at + '·own', [])]
+            if own in (['taken'], ['left']):
+                own = Outcome(own, recs[at + '·own'][0][1], lts)
             way += [(path, k, own) for k in fields if k not in ('before', 'good', 'pre', 'fits', 'κs', 'blocks')]
             at = fields['before'].split()[0] if 'before' in fields else ''
             path += ' .before'
@@ -86,7 +111,7 @@ def callees(lts):
         out[name if count[name] == 1 else f'{name}{count[name]}'] = path
     return out
 
-def facts(way, called, ensured, refusals):
+def facts(way, called, ensured, refusals, result_of=''):
     """the facts of the places, the latest first; without those on refusals alone where they are not asked for"""
     out, tested = [], None
     def known(field):
@@ -94,9 +119,11 @@ def facts(way, called, ensured, refusals):
     for at, (path, field, own) in enumerate(way):
         earlier = way[at + 1] if at + 1 < len(way) else ('', '', [])
         if own in (['taken'], ['left']):
-            if known(earlier[1])[1] == 'bool':
+            if known(earlier[1])[1] == 'bool' and own.direct:
                 tested = earlier
                 out.append(f'sym ({earlier[0]} .{earlier[1]} .ensures) ∙ {path} .{field} .{own[0]}')
+            elif own.laws:
+                out += [f'{law} _ _ ({path} .{field} .{own[0]})' for law in own.laws]
             else:
                 out.append(f'{path} .{field} .{own[0]}')
         elif own == ['given']:
@@ -108,7 +135,9 @@ def facts(way, called, ensured, refusals):
                 continue
             for i, clause in enumerate(clauses):
                 if refusals or '.refusal ' not in clause:
-                    out.append(f'{path} .{field} .ensures' + (f' .{i}' if len(clauses) > 1 else ''))
+                    numbers = ('u16', 'u32', 'u64', 'usize') + (() if result_of == 'bool' else ('bool',))
+                    back = '← ' if result in numbers and '≡' in clause else ''
+                    out.append(f'{back}{path} .{field} .ensures' + (f' .{i}' if len(clauses) > 1 else ''))
     return out
 
 def main():
@@ -129,7 +158,7 @@ def main():
     env = dict(os.environ, RT_CUT='0')
     said = subprocess.run(['rt', 'dev', crate], stdout=subprocess.PIPE, stderr=subprocess.STDOUT, text=True, env=env).stdout
     subprocess.run(['rt', 'dev', crate, '--generated', 'target/fill'], capture_output=True, env=env)
-    lines, i = said.split('\n'), 0
+    lines, i, written = said.split('\n'), 0, []
     while i < len(lines):
         m = re.match(r'help: write (\S+/proofs/(\S+)/Proof\.antt) with these lines', lines[i])
         i += 1
@@ -159,11 +188,11 @@ def main():
             if not need.startswith('returns'):
                 return f'{need} {rest} = search needs'
             head = f'unfolding {" ".join(unfold)}\n' if unfold else ''
-            if not facts(ways.get(need, []), called, ensured, True):
+            if not facts(ways.get(need, []), called, ensured, True, result):
                 return head + f'{need} {rest} = search needs'
             parts = []
             for clause in clauses:
-                known = facts(ways[need], called, ensured, '.value ' not in clause)
+                known = facts(ways[need], called, ensured, '.value ' not in clause, result)
                 law = '' if '.refusal ' not in clause else next((l for l in laws if f'{l[:-8]}C' in unfold), '')
                 if law:
                     known += ['first-assoc', 'zero-first']
@@ -188,11 +217,38 @@ def main():
         if used_laws:
             uses.append('use Rattle.checked.specs.Laws.{first-assoc, zero-first}')
             uses.append(f'use Rattle.{crate}.specs.Laws.{{{", ".join(sorted(used_laws))}}}')
+        tests = [l for l in ('lt-ltb', 'le-ltb', 'le-leb', 'lt-leb', 'eq-eqb', 'ne-eqb') if l + ' _ _' in text]
+        if tests:
+            uses.append('use borrow.Author.Tests.{' + ', '.join(tests) + '}')
         paths = (['sym', '_∙_'] if '∙' in text else []) + (['refl'] if 'refl' in text else [])
         if paths:
             uses.append('use mathlib.Core.Path.{' + ', '.join(paths) + '}')
         os.makedirs(os.path.dirname(path), exist_ok=True)
         open(path, 'w', encoding='utf-8').write('\n'.join(uses) + '\n' + text)
         print('wrote', path)
+        written.append(path)
+    if '--trim' in sys.argv and written:
+        trim(crate, written, env)
+
+def trim(crate, written, env):
+    """drop from the files the facts that `simp` says it never applied, and the imports that then stand idle"""
+    said = subprocess.run(['rt', 'dev', crate], stdout=subprocess.PIPE, stderr=subprocess.STDOUT, text=True, env=env).stdout
+    for path in written:
+        lines = read(path).split('\n')
+        for m in re.finditer(r'^(\S+?):(\d+):\d+: note: `simp` made .* never applied (.*) \(in `', said, re.M):
+            if os.path.abspath(m.group(1)) != os.path.abspath(path):
+                continue
+            at = int(m.group(2)) - 1
+            for fact in re.findall(r'`([^`]+)`', m.group(3)):
+                # a long fact is printed cut short
+                whole = re.escape(fact) if not fact.endswith('…') else re.escape(fact[:-1]) + r'[^,]*?(?=, |\)$)'
+                if lines[at].count('simp (') == 1:
+                    lines[at] = re.sub(rf', (?:← )?{whole}(?=, |\)$)|(?<=\()(?:← )?{whole}, ', '', lines[at], count=1)
+        text = '\n'.join(lines)
+        def keep(m):
+            names = [n for n in m.group(2).split(', ') if len(re.findall(r'(?<![\w-])' + re.escape(n) + r'(?![\w-])', text)) > 1]
+            return f'use {m.group(1)}.{{{", ".join(names)}}}\n' if names else ''
+        text = re.sub(r'^use (borrow\.Author\.Tests)\.\{(.*)\}\n', keep, text, flags=re.M)
+        open(path, 'w', encoding='utf-8').write(text)
 
 main()

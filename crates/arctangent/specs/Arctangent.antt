@@ -1,0 +1,175 @@
+-- The arctangents of libm 0.2.1, operation by operation: atan.rs, then atan2.rs, with their names for constants and variables. Definitions only.
+-- Operations that libm makes only to raise a flag are left out.
+use Prim.Native.Nat.{ℕ, _+_, _%_, _*_, _^_}
+use mathlib.Core.Bool.{Bool, cond, _&&_, _||_}
+use lib.Dec.{leb, ltb, eqb}
+use lib.Ieee.{Float, neg, isNan}
+use Rattle.checked.specs.Patterns.{bits, high-word}
+use Rattle.words.specs.Words.{zero, one, threeHalves, two, three, four, _+ᶠ_, _-ᶠ_, _*ᶠ_, _/ᶠ_, if_then_else_, float, size, sign, choose, signed, fabs}
+use Rattle.arctangent.specs.declared.Reduced.{Reduced}
+
+-- ---- atan.rs
+
+-- ATANHI and ATANLO: the arctangents of 1/2, 1, 3/2 and infinity, in two parts each
+abbrev ATANHI0 : Float
+ATANHI0 = float 0x3FDDAC67_0561BB4F  -- 4.63647609000806093515e-01
+
+abbrev ATANHI1 : Float
+ATANHI1 = float 0x3FE921FB_54442D18  -- 7.85398163397448278999e-01
+
+abbrev ATANHI2 : Float
+ATANHI2 = float 0x3FEF730B_D281F69B  -- 9.82793723247329054082e-01
+
+abbrev ATANHI3 : Float
+ATANHI3 = float 0x3FF921FB_54442D18  -- 1.57079632679489655800e+00
+
+abbrev ATANLO0 : Float
+ATANLO0 = float 0x3C7A2B7F_222F65E2  -- 2.26987774529616870924e-17
+
+abbrev ATANLO1 : Float
+ATANLO1 = float 0x3C81A626_33145C07  -- 3.06161699786838301793e-17
+
+abbrev ATANLO2 : Float
+ATANLO2 = float 0x3C700788_7AF0CBBD  -- 1.39033110312309984516e-17
+
+abbrev ATANLO3 : Float
+ATANLO3 = float 0x3C91A626_33145C07  -- 6.12323399573676603587e-17
+
+-- AT: the coefficients of the series
+abbrev AT0 : Float
+AT0 = float 0x3FD55555_5555550D  -- 3.33333333333329318027e-01
+
+abbrev AT1 : Float
+AT1 = float 0xBFC99999_9998EBC4  -- -1.99999999998764832476e-01
+
+abbrev AT2 : Float
+AT2 = float 0x3FC24924_920083FF  -- 1.42857142725034663711e-01
+
+abbrev AT3 : Float
+AT3 = float 0xBFBC71C6_FE231671  -- -1.11111104054623557880e-01
+
+abbrev AT4 : Float
+AT4 = float 0x3FB745CD_C54C206E  -- 9.09088713343650656196e-02
+
+abbrev AT5 : Float
+AT5 = float 0xBFB3B0F2_AF749A6D  -- -7.69187620504482999495e-02
+
+abbrev AT6 : Float
+AT6 = float 0x3FB10D66_A0D03D51  -- 6.66107313738753120669e-02
+
+abbrev AT7 : Float
+AT7 = float 0xBFADDE2D_52DEFD9A  -- -5.83357013379057348645e-02
+
+abbrev AT8 : Float
+AT8 = float 0x3FA97B4B_24760DEB  -- 4.97687799461593236017e-02
+
+abbrev AT9 : Float
+AT9 = float 0xBFA2B444_2C6A6C2F  -- -3.65315727442169155270e-02
+
+abbrev AT10 : Float
+AT10 = float 0x3F90AD3A_E322DA11  -- 1.62858201153657823623e-02
+
+-- from 2^66 up, infinity and NaN: a quarter turn, or the NaN
+abbrev pub atanHuge : Float → Float
+atanHuge x = if isNan x then x else signed (sign x) (ATANHI3 +ᶠ float 0x03800000)
+
+-- The new x with ATANHI and ATANLO of its id: from 7/16, from 11/16, from 19/16, from 39/16 up
+abbrev atHalf : Float → Reduced
+atHalf x = record { x = (two *ᶠ x -ᶠ one) /ᶠ (two +ᶠ x); high = ATANHI0; low = ATANLO0 }
+
+abbrev atOne : Float → Reduced
+atOne x = record { x = (x -ᶠ one) /ᶠ (x +ᶠ one); high = ATANHI1; low = ATANLO1 }
+
+abbrev atThreeHalves : Float → Reduced
+atThreeHalves x = record { x = (x -ᶠ threeHalves) /ᶠ (one +ᶠ threeHalves *ᶠ x); high = ATANHI2; low = ATANLO2 }
+
+abbrev atInfinity : Float → Reduced
+atInfinity x = record { x = neg one /ᶠ x; high = ATANHI3; low = ATANLO3 }
+
+abbrev reducedNear : ℕ → Float → Reduced
+reducedNear ix x = if ltb ix 0x3fe60000 then atHalf x else atOne x
+
+abbrev reducedFar : ℕ → Float → Reduced
+reducedFar ix x = if ltb ix 0x40038000 then atThreeHalves x else atInfinity x
+
+unfoldable pub reduced : ℕ → Float → Reduced
+reduced ix x = if ltb ix 0x3ff30000 then reducedNear ix x else reducedFar ix x
+
+-- x times the sum of the series, its terms of even and of odd index apart
+abbrev pub series : Float → Float
+series x =
+    let z = x *ᶠ x in
+    let w = z *ᶠ z in
+    let s1 = z *ᶠ (AT0 +ᶠ w *ᶠ (AT2 +ᶠ w *ᶠ (AT4 +ᶠ w *ᶠ (AT6 +ᶠ w *ᶠ (AT8 +ᶠ w *ᶠ AT10))))) in
+    let s2 = w *ᶠ (AT1 +ᶠ w *ᶠ (AT3 +ᶠ w *ᶠ (AT5 +ᶠ w *ᶠ (AT7 +ᶠ w *ᶠ AT9)))) in
+    x *ᶠ (s1 +ᶠ s2)
+
+-- below 7/16: the id is -1, or below 2^-27 there is none
+abbrev pub atanSmall : ℕ → Float → Float
+atanSmall ix x = if ltb ix 0x3e400000 then x else x -ᶠ series x
+
+-- from 7/16 up: the ids 0 to 3
+abbrev pub folded : Reduced → Float
+folded r = r .high -ᶠ (series (r .x) -ᶠ r .low -ᶠ r .x)
+
+unfoldable pub atan : Float → Float
+atan x =
+    let ix = high-word x in
+    if leb 0x44100000 ix then atanHuge x
+    else if ltb ix 0x3fdc0000 then atanSmall ix x
+    else signed (sign x) (folded (reduced ix (fabs x)))
+
+-- ---- atan2.rs
+
+abbrev PI : Float
+PI = float 0x400921FB_54442D18  -- 3.1415926535897931160E+00
+
+abbrev PI-LO : Float
+PI-LO = float 0x3CA1A626_33145C07  -- 1.2246467991473531772E-16
+
+unfoldable pub isOne : Float → Bool
+isOne x = eqb (bits x) 0x3ff00000_00000000
+
+-- y is 0
+abbrev pub atZeroY : ℕ → Float → Float
+atZeroY m y = choose m y y PI (neg PI)
+
+-- x is 0, or y/x is above 2^64 in magnitude: a quarter turn by the sign of y, the lowest bit of m
+abbrev pub quarterTurn : ℕ → Float
+quarterTurn m = if eqb (m % 2) 0 then PI /ᶠ two else neg PI /ᶠ two
+
+-- x is infinite, and y is too or is not
+abbrev pub bothInfinite : ℕ → Float
+bothInfinite m = choose m (PI /ᶠ four) (neg PI /ᶠ four) (three *ᶠ PI /ᶠ four) (neg three *ᶠ PI /ᶠ four)
+
+abbrev pub infiniteX : ℕ → Float
+infiniteX m = choose m zero (neg zero) PI (neg PI)
+
+abbrev pub atInfiniteX : ℕ → ℕ → Float
+atInfiniteX m iy = if eqb iy 0x7ff00000 then bothInfinite m else infiniteX m
+
+-- z, and by m the angle that it stands for. The sums of the words do not wrap: both are below 2^31.
+abbrev tooFlat : Float → Float → Bool
+tooFlat y x = eqb (sign x) 1 && ltb (high-word y + 64 * 2 ^ 20) (high-word x)
+
+unfoldable pub ratioAngle : Float → Float → Float
+ratioAngle y x = if tooFlat y x then zero else atan (fabs (y /ᶠ x))
+
+abbrev pub inQuadrant : ℕ → Float → Float
+inQuadrant m z = choose m z (neg z) (PI -ᶠ (z -ᶠ PI-LO)) ((z -ᶠ PI-LO) -ᶠ PI)
+
+abbrev tooSteep : ℕ → ℕ → Bool
+tooSteep iy ix = ltb (ix + 64 * 2 ^ 20) iy || eqb iy 0x7ff00000
+
+unfoldable pub atan2 : Float → Float → Float
+atan2 y x =
+    let ix = high-word x in
+    let iy = high-word y in
+    let m = 2 * sign x + sign y in
+    if isNan x || isNan y then x +ᶠ y
+    else if isOne x then atan y
+    else if eqb (size y) 0 then atZeroY m y
+    else if eqb (size x) 0 then quarterTurn m
+    else if eqb ix 0x7ff00000 then atInfiniteX m iy
+    else if tooSteep iy ix then quarterTurn m
+    else inQuadrant m (ratioAngle y x)
