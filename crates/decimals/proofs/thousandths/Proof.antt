@@ -1,0 +1,31 @@
+-- `decimals::thousandths` meets its contract. Assumes nothing.
+use borrow.Author.Needs.{needs}
+use mathlib.Core.Path.{sym, subst}
+use lib.Dec.{T}
+use lib.Ieee.{binary64, fits}
+use Rattle.decimals.proofs.Sizes.{few, many}
+use Rattle.decimals.proofs.thousandths.Statement.{statement}
+use Rattle.decimals.proofs.thousandths.Tie as tie
+
+-- what owning an `f64` tells: the format holds it
+held : (c : tie.Start) → T (fits binary64 (c .args .x))
+held c = subst T (sym (c .good .0 .1)) tt
+
+bits-requires : tie.Need-bits-requires
+bits-requires c κs = search needs
+
+size-of-requires : tie.Need-size-of-requires
+size-of-requires c κs = search needs
+
+returns : tie.Need-returns
+returns c =
+    let o = c .before .before in
+    few (o .before .args .x) (held (o .before)) (o .bits .result) (c .before .size-of .result) (o .bits .ensures) (c .before .size-of .ensures) (c .if1 .taken)
+
+returns-2 : tie.Need-returns-2
+returns-2 c =
+    let o = c .before .before in
+    many (o .before .args .x) (held (o .before)) (o .bits .result) (c .before .size-of .result) (o .bits .ensures) (c .before .size-of .ensures) (c .if1 .left)
+
+pub thousandths-spec : {M : Type 1} → statement M
+thousandths-spec = tie.close (tie.spec bits-requires size-of-requires returns returns-2)

@@ -1,0 +1,4 @@
+pub mod Thousandths
+pub mod Digits
+pub mod DigitLaws
+pub mod Examples
