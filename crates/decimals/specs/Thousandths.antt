@@ -5,9 +5,8 @@ use lib.IntN.{ℤ, pos, negsuc}
 use lib.Dec.{leb}
 use lib.Ieee.{Float, nan, inf, fin, up, down}
 use Rattle.checked.specs.Refusals.{COUNT-TOO-LARGE}
-use Rattle.checked.specs.Checked.{Due, due, refused, unless}
-use Rattle.decimals.specs.declared.Whole.{Whole}
-use Rattle.decimals.specs.declared.Whole.the-variants as whole
+use Rattle.checked.specs.Checked.{Due, due, refused, settled, unless}
+use Rattle.decimals.specs.declared.CheckedWhole.{CheckedWhole}
 
 -- the whole number nearest to n / d; a half goes up
 abbrev pub nearest-up : ℕ → ℕ → ℕ
@@ -34,6 +33,5 @@ thousandths (inf s) = refused COUNT-TOO-LARGE
 thousandths (fin s m e) = counted s (nearest-up (1000 * (m * up e)) (down e))
 
 -- what the code's answer says
-abbrev pub wholeDue : Whole → Due ℤ
-wholeDue (whole.Of s size) = due (signed s size)
-wholeDue (whole.Refused n) = refused n
+abbrev pub wholeDue : CheckedWhole → Due ℤ
+wholeDue w = settled (w .refusal) (signed (w .«is_negative») (w .size))

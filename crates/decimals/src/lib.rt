@@ -10,10 +10,11 @@ ghost use Rattle.decimals.specs.Digits as Digits;
 // The most thousandths that are printed, in magnitude.
 const MOST: u64 = 1_000_000_000;
 
-// A whole number of thousandths, as a sign and a size, or the refusal of a number that has too many.
-pub enum Whole {
-    Of { is_negative: bool, size: u64 },
-    Refused(u8),
+// A whole number as a sign and a size, with the refusal of one that is too large; 0 is none.
+pub struct CheckedWhole {
+    pub refusal: u8,
+    pub is_negative: bool,
+    pub size: u64,
 }
 
 // The whole thousandths of the magnitude whose bit pattern is b, nearest, a half going up. The significand m has 53 binary digits and
@@ -35,18 +36,24 @@ fn size_of(b: u64) -> u64
 }
 
 // The whole thousandths nearest to x, worked out from its exact value; a half goes away from zero.
-pub fn thousandths(x: f64) -> Whole
+pub fn thousandths(x: f64) -> CheckedWhole
     ensures { λ r. ⌜ Thousandths.wholeDue r ≡ Thousandths.thousandths x ⌝ }
 {
     let b = checked::bits(x);
+    let is_negative = b >= 0x8000_0000_0000_0000;
     let size = size_of(b % 0x8000_0000_0000_0000);
     if size <= MOST {
-        Whole::Of {
-            is_negative: b >= 0x8000_0000_0000_0000,
+        CheckedWhole {
+            refusal: 0,
+            is_negative,
             size,
         }
     } else {
-        Whole::Refused(checked::COUNT_TOO_LARGE)
+        CheckedWhole {
+            refusal: checked::COUNT_TOO_LARGE,
+            is_negative,
+            size,
+        }
     }
 }
 

@@ -3,6 +3,7 @@ use borrow.Author.Needs.{needs}
 use mathlib.Core.Path.{sym, subst}
 use lib.Dec.{T}
 use lib.Ieee.{binary64, fits}
+use Rattle.checked.specs.Checked.{settled}
 use Rattle.decimals.proofs.Sizes.{few, many}
 use Rattle.decimals.proofs.thousandths.Statement.{statement}
 use Rattle.decimals.proofs.thousandths.Tie as tie
@@ -18,11 +19,13 @@ size-of-requires : tie.Need-size-of-requires
 size-of-requires c κs = search needs
 
 returns : tie.Need-returns
+unfolding settled
 returns c =
     let o = c .before .before in
     few (o .before .args .x) (held (o .before)) (o .bits .result) (c .before .size-of .result) (o .bits .ensures) (c .before .size-of .ensures) (c .if1 .taken)
 
 returns-2 : tie.Need-returns-2
+unfolding settled
 returns-2 c =
     let o = c .before .before in
     many (o .before .args .x) (held (o .before)) (o .bits .result) (c .before .size-of .result) (o .bits .ensures) (c .before .size-of .ensures) (c .if1 .left)
