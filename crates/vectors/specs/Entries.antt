@@ -1,8 +1,8 @@
 -- What the entries on vectors are due to answer: the numbers handed in are tried, then the formula is worked out.
 use Prim.Native.Nat.{ℕ}
-use mathlib.Core.Bool.{Bool, _&&_}
+use mathlib.Core.Bool.{Bool, cond, _&&_}
 use mathlib.Core.List.{List, [], _∷_}
-use lib.Ieee.{Float}
+use lib.Ieee.{Float, le}
 use Rattle.checked.specs.Refusals.{OUT-OF-RANGE}
 use Rattle.checked.specs.Checked.{Checked, within, given, Due, due, refused, settled, answered, unless}
 use Rattle.vectors.specs.Vectors.{within3, plusC, minusC, timesC, negC, crossC, dotC}
@@ -10,6 +10,9 @@ use Rattle.vectors.specs.declared.Vec3.{Vec3}
 use Rattle.vectors.specs.declared.Vector.{Vector}
 use Rattle.vectors.specs.declared.Vector.the-variants as vector
 use Rattle.vectors.specs.declared.Coordinates.{Coordinates}
+use Rattle.vectors.specs.declared.Index.{Index}
+use Rattle.vectors.specs.declared.Index.the-variants as index
+use Rattle.words.specs.Words.{fabs}
 
 -- ---- what the code's answers say
 abbrev pub vectorDue : Vector → Due Vec3
@@ -19,6 +22,10 @@ vectorDue (vector.Refused n) = refused n
 -- three numbers, or a refusal beside numbers that mean nothing
 abbrev pub coordinatesDue : Coordinates → Due (List Float)
 coordinatesDue c = settled (c .refusal) (c .values)
+
+abbrev pub indexDue : Index → Due ℕ
+indexDue (index.Value k) = due k
+indexDue (index.Refused n) = refused n
 
 -- ---- what is due
 -- `Vec3::dot`
@@ -45,3 +52,11 @@ timesDue a k = unless OUT-OF-RANGE (within3 a && within k) (answered (timesC a k
 -- `Vec3::to_array`
 unfoldable pub toArrayDue : Vec3 → Due (List Float)
 toArrayDue a = unless OUT-OF-RANGE (within3 a) (due (a .x ∷ a .y ∷ a .z ∷ []))
+
+-- which of three numbers is the largest, the first one of equals: 0, 1 or 2
+unfoldable pub largest : Float → Float → Float → ℕ
+largest x y z = cond (le y x && le z x) 0 (cond (le z y) 1 2)
+
+-- `Vec3::dominant_axis`: of the magnitudes
+unfoldable pub dominantAxisDue : Vec3 → Due ℕ
+dominantAxisDue a = unless OUT-OF-RANGE (within3 a) (due (largest (fabs (a .x)) (fabs (a .y)) (fabs (a .z))))

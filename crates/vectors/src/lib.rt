@@ -3,7 +3,7 @@ ghost use mathlib.Core.Path.{_≡_};
 ghost use mathlib.Core.Bool.{_&&_};
 ghost use Rattle.checked.specs.Checked.{numberDue, settled, within};
 ghost use Rattle.vectors.specs.Vectors.{within2, within3, nines, plane, space};
-ghost use Rattle.vectors.specs.Entries.{vectorDue, coordinatesDue, dotDue, crossDue, sumDue, differenceDue, negationDue, timesDue, toArrayDue};
+ghost use Rattle.vectors.specs.Entries.{vectorDue, coordinatesDue, dotDue, crossDue, sumDue, differenceDue, negationDue, timesDue, toArrayDue, largest, dominantAxisDue, indexDue};
 use checked::CheckedNumber;
 use checked::Number;
 use checked::OUT_OF_RANGE;
@@ -41,6 +41,12 @@ pub enum Vector {
 pub struct Coordinates {
     pub refusal: u8,
     pub values: [f64; 3],
+}
+
+// The answer of an entry whose result is an index.
+pub enum Index {
+    Value(usize),
+    Refused(u8),
 }
 
 // All numbers of a vector pass the test of what is handed in.
@@ -89,6 +95,19 @@ fn tried(v: Vec3) -> Vector
         refusal: formula::noted(v, 0),
         value: v,
     })
+}
+
+// Which of three numbers is the largest, the first one of equals.
+fn largest(x: f64, y: f64, z: f64) -> usize
+    ensures { λ r. ⌜ r ≡ largest x y z ⌝ }
+{
+    if (y <= x) & (z <= x) {
+        0
+    } else if z <= y {
+        1
+    } else {
+        2
+    }
 }
 
 impl Vec2 {
@@ -177,6 +196,20 @@ impl Vec3 {
             tried(formula::times(self, k))
         } else {
             Vector::Refused(OUT_OF_RANGE)
+        }
+    }
+
+    pub fn dominant_axis(self) -> Index
+        ensures { λ r. ⌜ indexDue r ≡ dominantAxisDue self ⌝ }
+    {
+        if is_within3(self) {
+            Index::Value(largest(
+                words::fabs(self.x),
+                words::fabs(self.y),
+                words::fabs(self.z),
+            ))
+        } else {
+            Index::Refused(OUT_OF_RANGE)
         }
     }
 
