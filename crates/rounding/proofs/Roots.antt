@@ -93,12 +93,12 @@ pub near-unique : (n t u : ℕ) → NearRoot n t → NearRoot n u → t ≡ u
 near-unique n t u a b = le-antisymm (near-le n u t (b .under) (a .over)) (near-le n t u (a .under) (b .over))
 
 -- ---- what `compare` says
-abbrev Cmp : Ordering → ℕ → ℕ → Type 0
+abbrev pub Cmp : Ordering → ℕ → ℕ → Type 0
 Cmp Ordering·lt a b = a < b
 Cmp Ordering·eq a b = a ≡ b
 Cmp Ordering·gt a b = b < a
 
-cmp : (a b : ℕ) → Cmp (compare a b) a b
+pub cmp : (a b : ℕ) → Cmp (compare a b) a b
 cmp a b = go (compare a b) (leb→le a b) (nleb→lt a b) (eqb→eq a b) (λ (e : a ≡ b). subst (λ (x : ℕ). T (eqb a x)) e (eqb-refl a))
   where
     go : (o : Ordering) → (T (isLe o) → a ≤ b) → (T (not (isLe o)) → b < a) → (T (isEq o) → a ≡ b) → (a ≡ b → T (isEq o)) → Cmp o a b
@@ -137,7 +137,7 @@ cmp-cancel Ordering·gt a b k K h = lt-of-mul-lt-mul-right k h
 
 -- ---- the root of n * 4 ^ h has the digits of n's root, and h more
 
-size-is : (p h w : ℕ) → 0 < p → 2 ^ (p - 1 + h) ≤ w → w < 2 ^ (p + h) → size w - p ≡ h
+pub size-is : (p h w : ℕ) → 0 < p → 2 ^ (p - 1 + h) ≤ w → w < 2 ^ (p + h) → size w - p ≡ h
 size-is p h w P lo hi = go (size w) (size-le w (p + h) hi) (lt-of-not-le (λ (g : size w ≤ p - 1 + h). not-le-of-lt (lt-of-lt-of-le (size-lt w) (pow-mono g)) lo))
   where
     go : (z : ℕ) → z ≤ p + h → p - 1 + h < z → z - p ≡ h

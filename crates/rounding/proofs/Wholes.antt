@@ -1,62 +1,96 @@
 -- What the proofs of `ceil` and `round` cite, of an x that is above 0 and below 2 ^ 52, of one from 2 ^ 52 up, and of a zero or a NaN.
--- With n / d for the size of x, the code has w = n / d, and compares x with w, or with w + 1 / 2. Assumes nothing.
+-- With n / d for the size of x, the code has a whole number k that is at most a half away, and compares x with k, or with k + 1 / 2. Assumes nothing.
 use mathlib.Core.Path.{_≡_, refl, sym, ap, _∙_, subst}
 use mathlib.Core.Logic.{_⊎_, inl, inr}
 use mathlib.Core.Bool.{Bool, true, false, not, _&&_, cond, true≢false, false≢true}
-use Prim.Native.Nat.{ℕ, zero, suc, _+_, _-_, _*_, _/_, _%_, _^_, _≤_, _<_, min}
-use native.Mathlib.Nat.{le-trans, le-of-eq, le-of-lt, lt-of-lt-of-le, lt-of-le-of-lt, mul-one, one-mul, add-zero, pow-succ', mul-assoc, mul-comm, mul-left-comm, mul-pos, mul-le-mul-right, zero-lt-suc, zero-mul, add-mul, div-one, div-eq-of-lt-le, div-lt-iff-lt-mul, div-mul-le-self, lt-suc-self}
+use Prim.Native.Nat.{ℕ, zero, suc, _+_, _-_, _*_, _/_, _%_, _^_, _≤_, _<_}
+use native.Mathlib.Nat.{le-trans, le-of-eq, le-of-lt, lt-of-lt-of-le, lt-of-le-of-lt, eq-or-lt-of-le, mul-one, one-mul, add-zero, pow-succ', mul-assoc, mul-comm, mul-left-comm, mul-pos, mul-le-mul-right, lt-of-mul-lt-mul-right, zero-lt-suc, zero-mul, suc-mul, add-mul, div-one, div-eq-of-lt-le}
 use native.Mathlib.Omega.{arith}
 use lib.IntN.{ℤ, pos, negsuc}
 use lib.Dec.{T, leb, ltb, eqb, ltb→lt, lt→ltb, nltb→le, le→leb, eqb→eq, not-T, lit≤}
 use lib.Pow.{pow-add, pow-pos, pow-mono, shl-lt}
-use lib.Ieee.{Float, nan, inf, fin, Format, binary64, prec, emax, low, up, down, round, neg, add, sum, lt, fits, ofInt, ofBits, toUnsigned, inFloat}
-use lib.Ieee.Fits.{down-pos, up-pos, round-fits}
+use lib.Ieee.{Float, nan, inf, fin, Format, binary64, prec, emax, low, up, down, round, neg, add, sub, sum, lt, fits, ofInt}
+use lib.Ieee.Fits.{down-pos, up-pos}
 use lib.Ieee.Exact.{HasValue, round-exact}
 use lib.Ieee.Scale.{round-same}
 use lib.Ieee.Back.{round-whole}
-use Rattle.rounding.specs.Whole.{ceil, round-away, ceiled, halved-up}
-use Rattle.rounding.proofs.Values.{fits-small, zero-exponent, whole-is, neg-round, lt-values}
+use Rattle.rounding.specs.Whole.{ceil, round-away, ceiled, halved-up, Near}
+use Rattle.rounding.proofs.Values.{nought, fits-small, zero-exponent, whole-is, neg-round, lt-values, add-wholes, sub-wholes}
+use Rattle.rounding.proofs.NearWhole.{big}
 
-abbrev pub nought : Float
-nought = fin false 0 (pos 0)
-
-abbrev pub big : Float
-big = fin false 1 (pos 52)
+abbrev pub one : Float
+one = fin false 1 (pos 0)
 
 abbrev pub half : Float
 half = fin false 1 (negsuc 0)
 
--- ---- plain numbers: w is n / d without its fraction
+-- ---- plain numbers: k is at most a half away from n / d
 
-next : (w d : ℕ) → (w + 1) * d ≡ w * d + d
-next w d = add-mul w 1 d ∙ ap (λ (k : ℕ). w * d + k) (one-mul d)
+next : (k d : ℕ) → (k + 1) * d ≡ k * d + d
+next k d = add-mul k 1 d ∙ ap (λ (z : ℕ). k * d + z) (one-mul d)
 
-module _ (n d w : ℕ) (D : 0 < d) where
-  ceil-next : w * d < n → n < w * d + d → (n + (d - 1)) / d ≡ w + 1
-  ceil-next lo hi =
-      let a = next w d in
-      let b = next (w + 1) d in
+doubled : (k d : ℕ) → k * (2 * d) ≡ 2 * (k * d)
+doubled k d = mul-left-comm k 2 d
+
+middle : (k d : ℕ) → (k * 2 + 1) * d ≡ 2 * (k * d) + d
+middle k d = next (k * 2) d ∙ ap (λ (z : ℕ). z + d) (mul-assoc k 2 d ∙ doubled k d)
+
+module _ (n d k : ℕ) (D : 0 < d) (A : 2 * n ≤ 2 * (k * d) + d) (B : 2 * (k * d) ≤ 2 * n + d) where
+  ceil-next : k * d < n → (n + (d - 1)) / d ≡ k + 1
+  ceil-next l =
+      let a = next k d in
+      let b = next (k + 1) d in
       div-eq-of-lt-le d (omega arith) (omega arith)
 
-  ceil-same : w * d ≤ n → n ≤ w * d → (n + (d - 1)) / d ≡ w
-  ceil-same lo hi =
-      let a = next w d in
+  ceil-same : n ≤ k * d → (n + (d - 1)) / d ≡ k
+  ceil-same l =
+      let a = next k d in
       div-eq-of-lt-le d (omega arith) (omega arith)
 
-  half-same : w * d ≤ n → n * 2 < (w * 2 + 1) * d → (2 * n + d) / (2 * d) ≡ w
-  half-same lo hi =
-      let a = next w (2 * d) in
-      let b : w * (2 * d) ≡ 2 * (w * d) = mul-left-comm w 2 d in
-      let c : (w * 2 + 1) * d ≡ 2 * (w * d) + d = next (w * 2) d ∙ ap (λ (k : ℕ). k + d) (mul-assoc w 2 d ∙ b) in
+  floor-same : k * d ≤ n → n / d ≡ k
+  floor-same l =
+      let a = next k d in
+      div-eq-of-lt-le d (omega arith) (omega arith)
+
+  floor-less : n < k * d → (1 ≤ k) × (n / d ≡ k - 1)
+  floor-less l = go k l B
+    where
+      go : (j : ℕ) → n < j * d → 2 * (j * d) ≤ 2 * n + d → (1 ≤ j) × (n / d ≡ j - 1)
+      go zero l b = absurd (none (zero-mul d))
+        where
+          none : 0 * d ≡ 0 → ⊥
+          none e = omega arith
+      go (suc j) l b =
+          let a = next j d in
+          let s = suc-mul j d in
+          let q : n / d ≡ j = div-eq-of-lt-le d (omega arith) (omega arith) in
+          (zero-lt-suc j, q ∙ less j)
+        where
+          less : (i : ℕ) → i ≡ suc i - 1
+          less i = omega arith
+
+  half-same : 2 * n < 2 * (k * d) + d → (2 * n + d) / (2 * d) ≡ k
+  half-same l =
+      let a = next k (2 * d) in
+      let b = doubled k d in
       div-eq-of-lt-le (2 * d) (omega arith) (omega arith)
 
-  half-next : (w * 2 + 1) * d ≤ n * 2 → n < w * d + d → (2 * n + d) / (2 * d) ≡ w + 1
-  half-next lo hi =
-      let a = next w (2 * d) in
-      let e = next (w + 1) (2 * d) in
-      let b : w * (2 * d) ≡ 2 * (w * d) = mul-left-comm w 2 d in
-      let c : (w * 2 + 1) * d ≡ 2 * (w * d) + d = next (w * 2) d ∙ ap (λ (k : ℕ). k + d) (mul-assoc w 2 d ∙ b) in
+  half-next : 2 * (k * d) + d ≤ 2 * n → (2 * n + d) / (2 * d) ≡ k + 1
+  half-next l =
+      let a = next k (2 * d) in
+      let e = next (k + 1) (2 * d) in
+      let b = doubled k d in
       div-eq-of-lt-le (2 * d) (omega arith) (omega arith)
+
+  -- n / d is below 2 ^ 52
+  near-le : n < 2 ^ 52 * d → k ≤ 2 ^ 52
+  near-le h = down-one k (2 ^ 52) (lt-of-mul-lt-mul-right d (go (next (2 ^ 52) d)))
+    where
+      go : (2 ^ 52 + 1) * d ≡ 2 ^ 52 * d + d → k * d < (2 ^ 52 + 1) * d
+      go e = omega arith
+
+      down-one : (a b : ℕ) → a < b + 1 → a ≤ b
+      down-one a b g = omega arith
 
 -- ---- a value above 0 and below 2 ^ 52
 
@@ -66,6 +100,9 @@ Small x = (m : ℕ) × (e : ℤ) × (x ≡ fin false m e) × (m * up e < 2 ^ 52 
 tidy : (n d : ℕ) → n * 1 < 1 * 2 ^ 52 * d → n < 2 ^ 52 * d
 tidy n d h = omega arith
 
+untidy : (n d : ℕ) → n < 2 ^ 52 * d → n * 1 < 1 * 2 ^ 52 * d
+untidy n d h = omega arith
+
 pub small : (x : Float) → T (lt nought x) → T (lt x big) → Small x
 unfolding lt
 small nan p b = absurd b
@@ -74,7 +111,11 @@ small (inf false) p b = absurd b
 small (fin true m e) p b = absurd p
 small (fin false m e) p b = (m, e, refl, tidy (m * up e) (down e) (ltb→lt (m * up e * 1) (1 * 2 ^ 52 * down e) b))
 
--- ---- w + 1 / 2 is exact
+under-big : (m : ℕ) (e : ℤ) → m * up e < 2 ^ 52 * down e → T (lt (fin false m e) big)
+unfolding lt
+under-big m e h = lt→ltb (m * up e * 1) (1 * 2 ^ 52 * down e) (untidy (m * up e) (down e) h)
+
+-- ---- k + 1 / 2 is exact below 2 ^ 52, and at 2 ^ 52 it is rounded down
 
 four : (w d : ℕ) → w * 2 * (d * 2) ≡ w * d * 4
 four w d = mul-assoc w 2 (d * 2) ∙ ap (λ (k : ℕ). w * k) (go d) ∙ sym (mul-assoc w d 4)
@@ -107,86 +148,93 @@ add-half (fin false m e) w v h =
     (round-same binary64 false (w * 2 + 1) 2 (m * up e * 2 + 1 * down e) (down e * 2) (zero-lt-suc 1) (mul-pos (down-pos e) (zero-lt-suc 1)) (sym (halves (m * up e) (down e) w (v .1))))
     (half-exact w h)
 
-uncapped : (a : ℕ) → a < 2 ^ 52 → min a (2 ^ 64 - 1) ≡ a
-uncapped a h = omega arith
+big-half : add binary64 (ofInt binary64 (pos (2 ^ 52))) half ≡ big
+unfolding add ofInt
+big-half = refl
 
-over : (d n : ℕ) → 0 < d → 0 < 1 * d + n * 1
-over d n h = omega arith
-
-under : (n d : ℕ) → 0 < d → n < 2 ^ 52 * d → n * 1 < 1 * 2 ^ 64 * d
-under n d D h = omega arith
-
-in-range : (w : ℕ) → w < 2 ^ 52 → w + 1 ≤ 2 ^ 53
-in-range w h = omega arith
-
-module _ (m : ℕ) (e : ℤ) (h : m * up e < 2 ^ 52 * down e) where
+-- ---- the arms, for n / d = m * up e / down e and y, the k as a float
+module _ (m : ℕ) (e : ℤ) (h : m * up e < 2 ^ 52 * down e) (k : ℕ) (N : Near (fin false m e) k) where
   D : 0 < down e
   D = down-pos e
 
-  pub asked : T (lt (fin true 1 (pos 0)) (fin false m e)) × T (lt (fin false m e) (fin false 1 (pos 64)))
-  unfolding lt
-  asked = (lt→ltb 0 (1 * down e + m * up e * 1) (over (down e) (m * up e) D), lt→ltb (m * up e * 1) (1 * 2 ^ 64 * down e) (under (m * up e) (down e) D h))
+  abbrev y : Float
+  y = ofInt binary64 (pos k)
 
-  part-lt : m * up e / down e < 2 ^ 52
-  part-lt = div-lt-iff-lt-mul D .1 h
+  k-le : k ≤ 2 ^ 52
+  k-le = near-le (m * up e) (down e) k D (N .0) (N .1) h
 
-  pub trunc : toUnsigned 64 (fin false m e) ≡ m * up e / down e
-  unfolding toUnsigned
-  trunc = uncapped (m * up e / down e) part-lt
+  y-value : HasValue y false k 1
+  unfolding ofInt
+  y-value = round-whole binary64 false k (le-trans k-le (lit≤ tt))
 
-  module _ (w : ℕ) (W : w ≡ toUnsigned 64 (fin false m e)) where
-    is : w ≡ m * up e / down e
-    is = W ∙ trunc
+  y-below : lt y (fin false m e) ≡ ltb (k * down e) (m * up e * 1)
+  y-below = lt-values y (fin false m e) k 1 (m * up e) (down e) (zero-lt-suc 0) D y-value (refl, refl)
 
-    pub w-lt : w < 2 ^ 52
-    w-lt = subst (λ (k : ℕ). k < 2 ^ 52) (sym is) part-lt
+  y-above : lt (fin false m e) y ≡ ltb (m * up e * 1) (k * down e)
+  y-above = lt-values (fin false m e) y (m * up e) (down e) k 1 D (zero-lt-suc 0) (refl, refl) y-value
 
-    lo : w * down e ≤ m * up e
-    lo = subst (λ (k : ℕ). k * down e ≤ m * up e) (sym is) (div-mul-le-self (m * up e) (down e))
+  flip : {a b : Bool} → a ≡ b → T (not a) → T (not b)
+  flip p t = subst (λ (z : Bool). T (not z)) p t
 
-    hi : m * up e < w * down e + down e
-    hi = subst (λ (k : ℕ). m * up e < k) (next w (down e)) (div-lt-iff-lt-mul D .0 (subst (λ (k : ℕ). k < w + 1) is (here w)))
-      where
-        here : (k : ℕ) → k < k + 1
-        here k = omega arith
+  pub ceil-up : T (lt y (fin false m e)) → add binary64 y one ≡ ceil binary64 (fin false m e)
+  unfolding ceil
+  ceil-up t =
+      let l : k * down e < m * up e = subst (λ (z : ℕ). k * down e < z) (mul-one (m * up e)) (ltb→lt (k * down e) (m * up e * 1) (subst T y-below t)) in
+      add-wholes binary64 y one k 1 y-value (refl, refl) ∙ ap (λ (z : ℕ). round binary64 false z 1) (sym (ceil-next (m * up e) (down e) k D (N .0) (N .1) l))
 
-    y-value : HasValue (ofInt binary64 (pos w)) false w 1
-    unfolding ofInt
-    y-value = round-whole binary64 false w (le-trans (le-of-lt w-lt) (lit≤ tt))
+  pub ceil-stays : T (not (lt y (fin false m e))) → y ≡ ceil binary64 (fin false m e)
+  unfolding ofInt ceil
+  ceil-stays t =
+      let l : m * up e ≤ k * down e = subst (λ (z : ℕ). z ≤ k * down e) (mul-one (m * up e)) (nltb→le (k * down e) (m * up e * 1) (flip y-below t)) in
+      ap (λ (z : ℕ). round binary64 false z 1) (sym (ceil-same (m * up e) (down e) k D (N .0) (N .1) l))
 
-    cmp : lt (ofInt binary64 (pos w)) (fin false m e) ≡ ltb (w * down e) (m * up e * 1)
-    cmp = lt-values (ofInt binary64 (pos w)) (fin false m e) w 1 (m * up e) (down e) (zero-lt-suc 0) D y-value (refl, refl)
+  -- of the negative number with the same size
+  pub ceil-below-less : T (lt (fin false m e) y) → neg (sub binary64 y one) ≡ ceil binary64 (fin true m e)
+  unfolding ceil
+  ceil-below-less t =
+      let l : m * up e < k * down e = subst (λ (z : ℕ). z < k * down e) (mul-one (m * up e)) (ltb→lt (m * up e * 1) (k * down e) (subst T y-above t)) in
+      let f = floor-less (m * up e) (down e) k D (N .0) (N .1) l in
+      ap neg (sub-wholes binary64 y one k 1 (f .0) y-value (refl, refl)) ∙ neg-round binary64 (k - 1) 1 ∙ ap (λ (z : ℕ). round binary64 true z 1) (sym (f .1))
 
-    pub ceil-up : T (lt (ofInt binary64 (pos w)) (fin false m e)) → ofInt binary64 (pos (w + 1)) ≡ ceil binary64 (fin false m e)
-    unfolding ofInt ceil
-    ceil-up t =
-        let l : w * down e < m * up e = subst (λ (k : ℕ). w * down e < k) (mul-one (m * up e)) (ltb→lt (w * down e) (m * up e * 1) (subst T cmp t)) in
-        ap (λ (k : ℕ). round binary64 false k 1) (sym (ceil-next (m * up e) (down e) w D l hi))
+  pub ceil-below-stays : T (not (lt (fin false m e) y)) → neg y ≡ ceil binary64 (fin true m e)
+  unfolding ofInt ceil
+  ceil-below-stays t =
+      let l : k * down e ≤ m * up e = subst (λ (z : ℕ). k * down e ≤ z) (mul-one (m * up e)) (nltb→le (m * up e * 1) (k * down e) (flip y-above t)) in
+      neg-round binary64 k 1 ∙ ap (λ (z : ℕ). round binary64 true z 1) (sym (floor-same (m * up e) (down e) k D (N .0) (N .1) l))
 
-    pub ceil-stays : T (not (lt (ofInt binary64 (pos w)) (fin false m e))) → ofInt binary64 (pos w) ≡ ceil binary64 (fin false m e)
-    unfolding ofInt ceil
-    ceil-stays t =
-        let l : m * up e ≤ w * down e = subst (λ (k : ℕ). k ≤ w * down e) (mul-one (m * up e)) (nltb→le (w * down e) (m * up e * 1) (subst (λ (b : Bool). T (not b)) cmp t)) in
-        ap (λ (k : ℕ). round binary64 false k 1) (sym (ceil-same (m * up e) (down e) w D lo l))
+  half-below : k < 2 ^ 52 → lt (fin false m e) (add binary64 y half) ≡ ltb (m * up e * 2) ((k * 2 + 1) * down e)
+  half-below l = lt-values (fin false m e) (add binary64 y half) (m * up e) (down e) (k * 2 + 1) 2 D (zero-lt-suc 1) (refl, refl) (add-half y k y-value l)
 
-    -- for -x the whole part is what `ceil` asks
-    pub ceil-below : neg (ofInt binary64 (pos w)) ≡ ceil binary64 (fin true m e)
-    unfolding ofInt ceil
-    ceil-below = neg-round binary64 w 1 ∙ ap (λ (k : ℕ). round binary64 true k 1) is
+  halves-lt : (a b c : ℕ) → a * 2 < b → b ≡ 2 * c + down e → 2 * a < 2 * c + down e
+  halves-lt a b c p q = omega arith
 
-    z-value : HasValue (add binary64 (ofInt binary64 (pos w)) half) false (w * 2 + 1) 2
-    z-value = add-half (ofInt binary64 (pos w)) w y-value w-lt
+  halves-le : (a b c : ℕ) → b ≤ a * 2 → b ≡ 2 * c + down e → 2 * c + down e ≤ 2 * a
+  halves-le a b c p q = omega arith
 
-    cmp-half : lt (fin false m e) (add binary64 (ofInt binary64 (pos w)) half) ≡ ltb (m * up e * 2) ((w * 2 + 1) * down e)
-    cmp-half = lt-values (fin false m e) (add binary64 (ofInt binary64 (pos w)) half) (m * up e) (down e) (w * 2 + 1) 2 D (zero-lt-suc 1) (refl, refl) z-value
+  pub round-stays : T (lt (fin false m e) (add binary64 y half)) → y ≡ round-away binary64 (fin false m e)
+  unfolding ofInt round-away
+  round-stays t = ap (λ (z : ℕ). round binary64 false z 1) (sym (half-same (m * up e) (down e) k D (N .0) (N .1) (go (eq-or-lt-of-le k-le))))
+    where
+      top : (a : ℕ) → a < 2 ^ 52 * down e → 2 * a < 2 * (2 ^ 52 * down e) + down e
+      top a g = omega arith
 
-    pub round-stays : T (lt (fin false m e) (add binary64 (ofInt binary64 (pos w)) half)) → ofInt binary64 (pos w) ≡ round-away binary64 (fin false m e)
-    unfolding ofInt round-away
-    round-stays t = ap (λ (k : ℕ). round binary64 false k 1) (sym (half-same (m * up e) (down e) w D lo (ltb→lt (m * up e * 2) ((w * 2 + 1) * down e) (subst T cmp-half t))))
+      go : (k ≡ 2 ^ 52) ⊎ (k < 2 ^ 52) → 2 * (m * up e) < 2 * (k * down e) + down e
+      go (inl q) = subst (λ (z : ℕ). 2 * (m * up e) < 2 * (z * down e) + down e) (sym q) (top (m * up e) h)
+      go (inr l) = halves-lt (m * up e) ((k * 2 + 1) * down e) (k * down e) (ltb→lt (m * up e * 2) ((k * 2 + 1) * down e) (subst T (half-below l) t)) (middle k (down e))
 
-    pub round-up : T (not (lt (fin false m e) (add binary64 (ofInt binary64 (pos w)) half))) → ofInt binary64 (pos (w + 1)) ≡ round-away binary64 (fin false m e)
-    unfolding ofInt round-away
-    round-up t = ap (λ (k : ℕ). round binary64 false k 1) (sym (half-next (m * up e) (down e) w D (nltb→le (m * up e * 2) ((w * 2 + 1) * down e) (subst (λ (b : Bool). T (not b)) cmp-half t)) hi))
+  pub round-up : T (not (lt (fin false m e) (add binary64 y half))) → add binary64 y one ≡ round-away binary64 (fin false m e)
+  unfolding round-away
+  round-up t = go (eq-or-lt-of-le k-le)
+    where
+      no-more : (b : Bool) → T b → T (not b) → ⊥
+      no-more true p q = q
+      no-more false p q = p
+
+      go : (k ≡ 2 ^ 52) ⊎ (k < 2 ^ 52) → add binary64 y one ≡ round binary64 false (halved-up (m * up e) (down e)) 1
+      go (inl q) = absurd (no-more (lt (fin false m e) big) (under-big m e h) (flip (ap (λ (z : ℕ). lt (fin false m e) (add binary64 (ofInt binary64 (pos z)) half)) q ∙ ap (lt (fin false m e)) big-half) t))
+      go (inr l) =
+          let g = halves-le (m * up e) ((k * 2 + 1) * down e) (k * down e) (nltb→le (m * up e * 2) ((k * 2 + 1) * down e) (flip (half-below l) t)) (middle k (down e)) in
+          add-wholes binary64 y one k 1 y-value (refl, refl) ∙ ap (λ (z : ℕ). round binary64 false z 1) (sym (half-next (m * up e) (down e) k D (N .0) (N .1) g))
 
 -- ---- a value below 0 and above -2 ^ 52
 
@@ -210,13 +258,10 @@ small-below (fin true m e) p b = (m, e, refl, tidy (m * up e) (down e) (ltb→lt
 back-above : (n d : ℕ) → 0 < n → 0 * d < n * 1
 back-above n d h = omega arith
 
-back-under : (n d : ℕ) → n < 2 ^ 52 * d → n * 1 < 1 * 2 ^ 52 * d
-back-under n d h = omega arith
-
--- what `nearest_up` requires of -x
+-- what the helpers of `ceil` and `round` require of -x
 pub turned : (m : ℕ) (e : ℤ) → m * up e < 2 ^ 52 * down e → 0 < m * up e → T (lt nought (fin false m e)) × T (lt (fin false m e) big)
 unfolding lt
-turned m e h p = (lt→ltb (0 * down e) (m * up e * 1) (back-above (m * up e) (down e) p), lt→ltb (m * up e * 1) (1 * 2 ^ 52 * down e) (back-under (m * up e) (down e) h))
+turned m e h p = (lt→ltb (0 * down e) (m * up e * 1) (back-above (m * up e) (down e) p), under-big m e h)
 
 pub round-below : (m : ℕ) (e : ℤ) → neg (round-away binary64 (fin false m e)) ≡ round-away binary64 (fin true m e)
 unfolding round-away
@@ -311,49 +356,36 @@ unfolding round-away
 round-flat x (inl e) = e ∙ sym (ap (round-away binary64) e)
 round-flat x (inr (s, e)) = e ∙ zero-round s ∙ sym (ap (round-away binary64) e)
 
--- ---- the same, of any x that is such a value
+-- ---- the same, of any x that is such a value, and of what the code has for y
 
-pub in-float : (w : ℕ) → w < 2 ^ 52 → T (inFloat binary64 (pos w))
-unfolding inFloat
-in-float w h = le→leb w (2 ^ 53) (le-trans (le-of-lt h) (lit≤ tt))
+-- what `nearest_whole` says of its result
+abbrev pub NearFloat : Float → Float → Type 0
+NearFloat x y = (k : ℕ) × (y ≡ ofInt binary64 (pos k)) × Near x k
 
-pub in-float-next : (w : ℕ) → w < 2 ^ 52 → T (inFloat binary64 (pos (w + 1)))
-unfolding inFloat
-in-float-next w h = le→leb (w + 1) (2 ^ 53) (in-range w h)
+module _ (x y : Float) (S : Small x) (R : NearFloat x y) where
+  close : Near (fin false (S .0) (S .1)) (R .0)
+  close = subst (λ (v : Float). Near v (R .0)) (S .2) (R .2)
 
-module _ (x : Float) (S : Small x) where
-  to-x : (P : Float → Type 0) → P (fin false (S .0) (S .1)) → P x
-  to-x P p = subst P (sym (S .2)) p
+  -- a claim on the arguments in their plain form is one on x and y
+  back : (P : Float → Float → Type 0) → P (fin false (S .0) (S .1)) (ofInt binary64 (pos (R .0))) → P x y
+  back P p = subst (λ (v : Float). P v y) (sym (S .2)) (subst (λ (w : Float). P (fin false (S .0) (S .1)) w) (sym (R .1)) p)
 
-  pub asked-at : T (lt (fin true 1 (pos 0)) x) × T (lt x (fin false 1 (pos 64)))
-  asked-at = to-x (λ v. T (lt (fin true 1 (pos 0)) v) × T (lt v (fin false 1 (pos 64)))) (asked (S .0) (S .1) (S .3))
+  pub ceil-up-at : T (lt y x) → add binary64 y one ≡ ceil binary64 x
+  ceil-up-at = back (λ v w. T (lt w v) → add binary64 w one ≡ ceil binary64 v) (ceil-up (S .0) (S .1) (S .3) (R .0) close)
 
-  module _ (w : ℕ) (W : w ≡ toUnsigned 64 x) where
-    at : w ≡ toUnsigned 64 (fin false (S .0) (S .1))
-    at = W ∙ ap (toUnsigned 64) (S .2)
+  pub ceil-stays-at : T (not (lt y x)) → y ≡ ceil binary64 x
+  ceil-stays-at = back (λ v w. T (not (lt w v)) → w ≡ ceil binary64 v) (ceil-stays (S .0) (S .1) (S .3) (R .0) close)
 
-    pub w-at : w < 2 ^ 52
-    w-at = w-lt (S .0) (S .1) (S .3) w at
+  pub round-up-at : T (not (lt x (add binary64 y half))) → add binary64 y one ≡ round-away binary64 x
+  round-up-at = back (λ v w. T (not (lt v (add binary64 w half))) → add binary64 w one ≡ round-away binary64 v) (round-up (S .0) (S .1) (S .3) (R .0) close)
 
-    pub ceil-up-at : T (lt (ofInt binary64 (pos w)) x) → ofInt binary64 (pos (w + 1)) ≡ ceil binary64 x
-    ceil-up-at = to-x (λ v. T (lt (ofInt binary64 (pos w)) v) → ofInt binary64 (pos (w + 1)) ≡ ceil binary64 v) (ceil-up (S .0) (S .1) (S .3) w at)
-
-    pub ceil-stays-at : T (not (lt (ofInt binary64 (pos w)) x)) → ofInt binary64 (pos w) ≡ ceil binary64 x
-    ceil-stays-at = to-x (λ v. T (not (lt (ofInt binary64 (pos w)) v)) → ofInt binary64 (pos w) ≡ ceil binary64 v) (ceil-stays (S .0) (S .1) (S .3) w at)
-
-    pub round-up-at : T (not (lt x (add binary64 (ofInt binary64 (pos w)) half))) → ofInt binary64 (pos (w + 1)) ≡ round-away binary64 x
-    round-up-at = to-x (λ v. T (not (lt v (add binary64 (ofInt binary64 (pos w)) half))) → ofInt binary64 (pos (w + 1)) ≡ round-away binary64 v) (round-up (S .0) (S .1) (S .3) w at)
-
-    pub round-stays-at : T (lt x (add binary64 (ofInt binary64 (pos w)) half)) → ofInt binary64 (pos w) ≡ round-away binary64 x
-    round-stays-at = to-x (λ v. T (lt v (add binary64 (ofInt binary64 (pos w)) half)) → ofInt binary64 (pos w) ≡ round-away binary64 v) (round-stays (S .0) (S .1) (S .3) w at)
+  pub round-stays-at : T (lt x (add binary64 y half)) → y ≡ round-away binary64 x
+  round-stays-at = back (λ v w. T (lt v (add binary64 w half)) → w ≡ round-away binary64 v) (round-stays (S .0) (S .1) (S .3) (R .0) close)
 
 module _ (x : Float) (S : SmallBelow x) where
   minus : neg x ≡ fin false (S .0) (S .1)
   unfolding neg
   minus = ap neg (S .2)
-
-  pub asked-below : T (lt (fin true 1 (pos 0)) (neg x)) × T (lt (neg x) (fin false 1 (pos 64)))
-  asked-below = subst (λ (v : Float). T (lt (fin true 1 (pos 0)) v) × T (lt v (fin false 1 (pos 64)))) (sym minus) (asked (S .0) (S .1) (S .3))
 
   pub turned-below : T (lt nought (neg x)) × T (lt (neg x) big)
   turned-below = subst (λ (v : Float). T (lt nought v) × T (lt v big)) (sym minus) (turned (S .0) (S .1) (S .3) (S .4))
@@ -361,12 +393,19 @@ module _ (x : Float) (S : SmallBelow x) where
   pub round-below-at : neg (round-away binary64 (neg x)) ≡ round-away binary64 x
   round-below-at = ap (λ (v : Float). neg (round-away binary64 v)) minus ∙ round-below (S .0) (S .1) ∙ sym (ap (round-away binary64) (S .2))
 
-  module _ (w : ℕ) (W : w ≡ toUnsigned 64 (neg x)) where
-    at-minus : w ≡ toUnsigned 64 (fin false (S .0) (S .1))
-    at-minus = W ∙ ap (toUnsigned 64) minus
+  module _ (y : Float) (R : NearFloat (neg x) y) where
+    close-below : Near (fin false (S .0) (S .1)) (R .0)
+    close-below = subst (λ (v : Float). Near v (R .0)) minus (R .2)
 
-    pub w-below : w < 2 ^ 52
-    w-below = w-lt (S .0) (S .1) (S .3) w at-minus
+    back-below : (P : Float → Float → Type 0) → P (fin false (S .0) (S .1)) (ofInt binary64 (pos (R .0))) → P (neg x) y
+    back-below P p = subst (λ (v : Float). P v y) (sym minus) (subst (λ (w : Float). P (fin false (S .0) (S .1)) w) (sym (R .1)) p)
 
-    pub ceil-below-at : neg (ofInt binary64 (pos w)) ≡ ceil binary64 x
-    ceil-below-at = ceil-below (S .0) (S .1) (S .3) w at-minus ∙ sym (ap (ceil binary64) (S .2))
+    pub ceil-below-less-at : T (lt (neg x) y) → neg (sub binary64 y one) ≡ ceil binary64 x
+    ceil-below-less-at t =
+        back-below (λ v w. T (lt v w) → neg (sub binary64 w one) ≡ ceil binary64 (fin true (S .0) (S .1))) (ceil-below-less (S .0) (S .1) (S .3) (R .0) close-below) t
+        ∙ sym (ap (ceil binary64) (S .2))
+
+    pub ceil-below-stays-at : T (not (lt (neg x) y)) → neg y ≡ ceil binary64 x
+    ceil-below-stays-at t =
+        back-below (λ v w. T (not (lt v w)) → neg w ≡ ceil binary64 (fin true (S .0) (S .1))) (ceil-below-stays (S .0) (S .1) (S .3) (R .0) close-below) t
+        ∙ sym (ap (ceil binary64) (S .2))

@@ -1,7 +1,7 @@
 -- IEEE 754's roundToIntegralTowardPositive and roundToIntegralTiesToAway, defined by division of whole numbers. Definitions only.
 -- A finite value has the size n / d, where n = m * up e and d = down e. The result keeps the sign of its argument, a zero too.
 -- `round f s k 1` is the whole number k with the sign s; `proofs/Exactness.antt` shows that it never rounds here.
-use Prim.Native.Nat.{ℕ, _+_, _-_, _*_, _/_}
+use Prim.Native.Nat.{ℕ, _+_, _-_, _*_, _/_, _≤_}
 use mathlib.Core.Bool.{Bool, cond}
 use lib.Ieee.{Float, nan, inf, fin, Format, up, down, round}
 
@@ -30,3 +30,9 @@ unfolding round
 round-away f nan = nan
 round-away f (inf s) = inf s
 round-away f (fin s m e) = round f s (halved-up (m * up e) (down e)) 1
+
+-- k is a whole number that is at most a half away from the size of a finite value.
+abbrev pub Near : Float → ℕ → Type 0
+Near nan k = ⊥
+Near (inf s) k = ⊥
+Near (fin s m e) k = (2 * (m * up e) ≤ 2 * (k * down e) + down e) × (2 * (k * down e) ≤ 2 * (m * up e) + down e)

@@ -5,25 +5,35 @@ ghost use Prim.Native.Nat.{ℕ, _+_, _-_, _*_, _/_, _%_, _^_, _≤_, _<_};
 ghost use mathlib.Core.Bool.{false};
 ghost use lib.IntN.{pos};
 ghost use lib.Dec.{T};
-ghost use lib.Ieee.{binary64, fin, lt};
+ghost use lib.Ieee.{binary64, fin, lt, ofInt};
 ghost use Rattle.rounding.specs.Whole as Whole;
 ghost use Rattle.rounding.specs.Root as Root;
 
-// The least whole number that is not below x. From 2^52 on an f64 has no fraction.
+// A whole number at most a half away from a. From 2^52 to 2^53 the f64 are the whole numbers, so the
+// sum is rounded to one of them, and the difference is exact.
+fn nearest_whole(a: f64) -> f64
+    requires { ⌜ T (lt (fin false 0 (pos 0)) a) ⌝ ∗ ⌜ T (lt a (fin false 1 (pos 52))) ⌝ }
+    ensures { λ r. ⌜ ((k : ℕ) × (r ≡ ofInt binary64 (pos k)) × Whole.Near a k) ⌝ }
+{
+    a + 4503599627370496.0 - 4503599627370496.0
+}
+
+// The least whole number that is not below x. From 2^52 on an f64 has no fraction. Below zero the size
+// is cut instead, and the sign is put back last, so that it stays on a zero.
 pub fn ceil(x: f64) -> f64
     ensures { λ r. ⌜ r ≡ Whole.ceil binary64 x ⌝ }
 {
     if x > 0.0 {
         if x < 4503599627370496.0 {
-            let w = std::num::truncating_f64_to_u64(x);
-            let y = w as f64;
-            if y < x { (w + 1) as f64 } else { y }
+            let y = nearest_whole(x);
+            if y < x { y + 1.0 } else { y }
         } else {
             x
         }
     } else if x < 0.0 {
         if x > -4503599627370496.0 {
-            -(std::num::truncating_f64_to_u64(-x) as f64)
+            let y = nearest_whole(-x);
+            if -x < y { -(y - 1.0) } else { -y }
         } else {
             x
         }
@@ -32,15 +42,14 @@ pub fn ceil(x: f64) -> f64
     }
 }
 
-// The whole number nearest to a, halves up. The sum y + 0.5 is exact below 2^52, while a + 0.5 is not:
-// it would take the f64 next below a half to 1.
+// The whole number nearest to a, halves up. The test takes y + 0.5, which is exact, and not a + 0.5,
+// which would take the f64 next below a half to 1.
 fn nearest_up(a: f64) -> f64
     requires { ⌜ T (lt (fin false 0 (pos 0)) a) ⌝ ∗ ⌜ T (lt a (fin false 1 (pos 52))) ⌝ }
     ensures { λ r. ⌜ r ≡ Whole.«round-away» binary64 a ⌝ }
 {
-    let w = std::num::truncating_f64_to_u64(a);
-    let y = w as f64;
-    if a < y + 0.5 { y } else { (w + 1) as f64 }
+    let y = nearest_whole(a);
+    if a < y + 0.5 { y } else { y + 1.0 }
 }
 
 // The whole number nearest to x, halves away from zero.
