@@ -234,6 +234,8 @@ def trim(crate, written, env):
     """drop from the files the facts that `simp` says it never applied, and the imports that then stand idle"""
     said = subprocess.run(['rt', 'dev', crate], stdout=subprocess.PIPE, stderr=subprocess.STDOUT, text=True, env=env).stdout
     for path in written:
+        if re.search(rf'^{re.escape(path)}:\d+:\d+: error', said, re.M):
+            continue  # what is not proved keeps all its facts
         lines = read(path).split('\n')
         for m in re.finditer(r'^(\S+?):(\d+):\d+: note: `simp` made .* never applied (.*) \(in `', said, re.M):
             if os.path.abspath(m.group(1)) != os.path.abspath(path):
