@@ -1,0 +1,3 @@
+pub mod Boxes
+pub mod Laws
+pub mod Demand3

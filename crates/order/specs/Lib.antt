@@ -1,0 +1,4 @@
+pub mod Least
+pub mod Order
+pub mod Value
+pub mod Extremes
