@@ -18,7 +18,7 @@ unsafe extern "C" {
     safe fn jr_extend_bounds(arc: &[f64; 7], from: &[f64; 3], to: &[f64; 3], corners: &mut [f64; 6]) -> u32;
 }
 
-mod rust {
+pub mod rust {
     use datum_math::{Vec2, Vec3};
 
     use crate::ProfileArc;
@@ -340,7 +340,8 @@ const CHORDS: &[Class] = &[
 // --- arcs of edges ---
 
 #[derive(Clone, Copy)]
-enum Kind {
+pub enum Kind {
+    ByHand,
     Nice,
     Pipe,
     Whole,
@@ -423,9 +424,21 @@ fn degenerate(d: &mut Draw) -> [f64; 13] {
     i
 }
 
-fn edge(d: &mut Draw, kind: Kind) -> [f64; 13] {
+/// An arc of radius 5 about the origin, to either side, between points that can be worked out by hand, its centre one of them.
+fn by_hand(d: &mut Draw) -> [f64; 13] {
+    let mut i = [0.0; 13];
+    i[5] = d.sign();
+    i[6] = 5.0;
+    for end in [7, 10] {
+        (i[end], i[end + 1]) = [(5.0, 0.0), (0.0, 5.0), (-5.0, 0.0), (0.0, -5.0), (3.0, 4.0), (0.0, 0.0)][d.below(6) as usize];
+    }
+    i
+}
+
+pub fn edge(d: &mut Draw, kind: Kind) -> [f64; 13] {
     let mut i = [0.0; 13];
     match kind {
+        Kind::ByHand => i = by_hand(d),
         Kind::Nice => i = nice(d),
         Kind::Pipe => i = pipe(d),
         Kind::Whole => classes::whole(d, &mut i),
@@ -446,6 +459,7 @@ fn edge(d: &mut Draw, kind: Kind) -> [f64; 13] {
 macro_rules! edges {
     ($draw:ident) => {
         &[
+            ("worked out by hand", |d, i| $draw(d, i, Kind::ByHand)),
             ("nice whole numbers", |d, i| $draw(d, i, Kind::Nice)),
             ("pipes", |d, i| $draw(d, i, Kind::Pipe)),
             ("whole numbers off the circle", |d, i| $draw(d, i, Kind::Whole)),

@@ -9,7 +9,7 @@ fn alike(a: f64, b: f64, zeros_alike: bool) -> bool {
     a.to_bits() == b.to_bits() || (a.is_nan() && b.is_nan()) || (zeros_alike && a == 0.0 && b == 0.0)
 }
 
-fn all_alike(a: &[f64], b: &[f64], zeros_alike: bool) -> bool {
+pub fn all_alike(a: &[f64], b: &[f64], zeros_alike: bool) -> bool {
     a.iter().zip(b).all(|(x, y)| alike(*x, *y, zeros_alike))
 }
 

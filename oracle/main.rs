@@ -3,6 +3,11 @@
 //!     driver compare [--count N] [--seed S] [--only NAME]   table of comparisons, status 1 on a difference
 //!     driver bench [--only NAME]                            nanoseconds of a call on both sides
 //!     driver hash [--count N] [--seed S]                    a sum over the Rust's answers, for another build
+//!     driver edgebox                                        what `edgebox` prints, by the Rust
+//!     driver fuzz --program FILE [--count N] [--seed S]     edge files through that program, status 1 on a difference
+//!     driver replay [--count N] [--seed S]                  N answers of each class of each entry, a line each
+//!     driver operations                                     the numbers under which these lines name the entries
+//!     driver arcs [--count N] [--seed S]                    an edge file of that many pipes' arcs
 
 #[allow(dead_code)]
 #[path = "../target/oracle/cut/curve.rs"]
@@ -23,29 +28,35 @@ mod bench;
 mod classes;
 mod compare;
 mod draw;
+mod edges;
 mod elementary;
 mod entry;
+mod fuzz;
 mod motions;
+mod replay;
 mod rounding;
 mod track;
 mod vectors;
 
+use std::io::Write;
+
 use entry::Entry;
 
-/// The entries that the port's library has, group by group.
+/// All entries, group by group. Their places number the operations of the replayed list: new groups go to the end.
 fn entries() -> Vec<&'static Entry> {
     let groups = [rounding::ENTRIES, elementary::ENTRIES, vectors::ENTRIES, motions::ENTRIES, arcs::ENTRIES];
-    groups.into_iter().flatten().filter(|e| !missing::MISSING.contains(&e.port_name)).collect()
+    groups.into_iter().flatten().collect()
 }
 
 struct Options {
     count: Option<u64>,
     seed: u64,
     only: Option<String>,
+    program: String,
 }
 
 fn options(mut words: impl Iterator<Item = String>) -> Result<Options, String> {
-    let mut chosen = Options { count: None, seed: 1, only: None };
+    let mut chosen = Options { count: None, seed: 1, only: None, program: String::new() };
     while let Some(word) = words.next() {
         let value = words.next().ok_or(format!("{word} needs a value"))?;
         let number = || value.parse().map_err(|_| format!("{word}: {value} is no number"));
@@ -53,10 +64,25 @@ fn options(mut words: impl Iterator<Item = String>) -> Result<Options, String> {
             "--count" => chosen.count = Some(number()?),
             "--seed" => chosen.seed = number()?,
             "--only" => chosen.only = Some(value),
+            "--program" => chosen.program = value,
             _ => return Err(format!("unknown option {word}")),
         }
     }
     Ok(chosen)
+}
+
+/// An edge file of pipes' arcs on standard output.
+fn arcs_file(count: u64, seed: u64) -> bool {
+    let mut d = draw::Draw::new(seed);
+    let mut out = std::io::BufWriter::new(std::io::stdout().lock());
+    let mut write = || -> std::io::Result<()> {
+        for _ in 0..count {
+            out.write_all(&edges::edge_record(&arcs::edge(&mut d, arcs::Kind::Pipe)))?;
+        }
+        out.write_all(&edges::END_RECORD)?;
+        out.flush()
+    };
+    write().is_ok()
 }
 
 fn main() {
@@ -69,7 +95,9 @@ fn main() {
             std::process::exit(2);
         }
     };
-    let mut entries = entries();
+    let all = entries();
+    let mut entries = all.clone();
+    entries.retain(|e| !missing::MISSING.contains(&e.port_name));
     if let Some(name) = &chosen.only {
         entries.retain(|e| e.name == name);
         if entries.is_empty() {
@@ -81,6 +109,14 @@ fn main() {
         "compare" => compare::compare(&entries, chosen.count, chosen.seed),
         "hash" => compare::hash(&entries, chosen.count.unwrap_or(50_000), chosen.seed),
         "bench" => bench::bench(&entries, chosen.seed),
+        "edgebox" => {
+            println!("{}", edges::line(std::io::stdin().lock(), edges::by_rust));
+            true
+        }
+        "fuzz" => fuzz::fuzz(&chosen.program, chosen.count.unwrap_or(1_000_000), chosen.seed, 2),
+        "replay" => replay::replay(&all, chosen.count.unwrap_or(15), chosen.seed),
+        "operations" => replay::operations(&all),
+        "arcs" => arcs_file(chosen.count.unwrap_or(1_000_000), chosen.seed),
         _ => {
             eprintln!("driver: unknown mode {mode:?}");
             std::process::exit(2);
