@@ -11,8 +11,8 @@ a refusal is proved by it, and else by the rules.
 It unfolds the crate's own unfoldable definitions that the function's `ensures` name.
 The outcome of a test of two whole numbers goes in as each test of a definition that it settles (`a < b` as `ltb a b` and
 as `leb b a`), and what a call that gives a whole number ensures goes in from right to left: the definition's word
-becomes the number that the code tested. With --trim it checks the files it wrote once more and drops from them each fact
-that `simp` never applied.
+becomes the number that the code tested. With --trim it checks the crate once more and drops from its proofs each fact that
+`simp` never applied.
 The rules are the ruleset `rules` of each Laws.antt in the specs/ of the crate and of the crates that it needs, if there.
 A function with a loop keeps the holes of its invariant and measure. What does not close is left for you to edit.
 """
@@ -158,7 +158,7 @@ def main():
     env = dict(os.environ, RT_CUT='0')
     said = subprocess.run(['rt', 'dev', crate], stdout=subprocess.PIPE, stderr=subprocess.STDOUT, text=True, env=env).stdout
     subprocess.run(['rt', 'dev', crate, '--generated', 'target/fill'], capture_output=True, env=env)
-    lines, i, written = said.split('\n'), 0, []
+    lines, i = said.split('\n'), 0
     while i < len(lines):
         m = re.match(r'help: write (\S+/proofs/(\S+)/Proof\.antt) with these lines', lines[i])
         i += 1
@@ -226,14 +226,13 @@ def main():
         os.makedirs(os.path.dirname(path), exist_ok=True)
         open(path, 'w', encoding='utf-8').write('\n'.join(uses) + '\n' + text)
         print('wrote', path)
-        written.append(path)
-    if '--trim' in sys.argv and written:
-        trim(crate, written, env)
+    if '--trim' in sys.argv:
+        trim(crate, env)
 
-def trim(crate, written, env):
-    """drop from the files the facts that `simp` says it never applied, and the imports that then stand idle"""
+def trim(crate, env):
+    """drop from the crate's proofs the facts that `simp` says it never applied, and the imports that then stand idle"""
     said = subprocess.run(['rt', 'dev', crate], stdout=subprocess.PIPE, stderr=subprocess.STDOUT, text=True, env=env).stdout
-    for path in written:
+    for path in sorted(set(re.findall(r'^(\S+/Proof\.antt):\d+:\d+: note: `simp` made', said, re.M))):
         if re.search(rf'^{re.escape(path)}:\d+:\d+: error', said, re.M):
             continue  # what is not proved keeps all its facts
         lines = read(path).split('\n')

@@ -14,7 +14,7 @@ use lib.Ieee.Bits.{is-true, is-false, toBits-ofBits, ofBits-fits}
 use lib.Ieee.Exact.{HasValue}
 use lib.Ieee.Order.{round-mono}
 use lib.Ieee.Back.{positive-back, negative-back}
-use borrow.Author.Tests.{lt-ltb, le-ltb}
+use borrow.Author.Tests.{lt-ltb}
 use Rattle.rounding.proofs.Values.{fits-small, neg-round}
 use Rattle.rounding.proofs.Patterns.{value-unique, pattern-value, rescale}
 use Rattle.checked.specs.Checked.{within as due, limit}
@@ -285,11 +285,3 @@ unfolding ofBits
 tmp-ends x h =
     let W = is-whole x (due-bounded x h) in
     ap (λ (k : ℕ). k % 4) (pattern (tmp x) (add-fits binary64 (mul binary64 x inv) to-int) W) ∙ ends (W .0 * 2 ^ (W .1)) ∙ sym (left (tmp x) W)
-
--- ---- rem_pio2's test of two exponents
-
-pub gap-yes : (a b k : ℕ) → a + k < b → ltb k (b - a) ≡ true
-gap-yes a b k h = lt-ltb k (b - a) (omega arith)
-
-pub gap-no : (a b k : ℕ) → b ≤ a + k → ltb k (b - a) ≡ false
-gap-no a b k h = le-ltb k (b - a) (omega arith)

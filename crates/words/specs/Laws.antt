@@ -1,10 +1,10 @@
 -- A number, its pattern without the sign, and what these read as. Assumes nothing.
 use mathlib.Core.Path.{_≡_, refl, sym, ap, _∙_, subst}
 use mathlib.Core.Bool.{Bool, true, false, not, cond}
-use Prim.Native.Nat.{ℕ, zero, suc, _+_, _*_, _/_, _%_, _^_, _<_}
+use Prim.Native.Nat.{ℕ, zero, suc, _+_, _-_, _*_, _/_, _%_, _^_, _<_, _≤_}
 use native.Mathlib.Omega.{arith}
-use lib.Dec.{T, leb, eqb}
-use borrow.Author.Tests.{lt-leb}
+use lib.Dec.{T, leb, ltb, eqb}
+use borrow.Author.Tests.{lt-leb, lt-ltb, le-ltb}
 use lib.Ieee.{Float, nan, inf, fin, Format, binary64, prec, low, hid, ones, odd, ne, isNan, toBits, ofBits, ofFields, nanBits, fits}
 use lib.Ieee.Bits.{ofBits-toBits, toBits-ofBits, toBits-lt, nanBits-is}
 use lib.Ieee.Compare.{differs-from-itself}
@@ -131,3 +131,11 @@ sign-most x F = small (bits x) (toBits-lt binary64 x F)
   where
     small : (b : ℕ) → b < 2 * (2 ^ 52 * 2048) → b / 2 ^ 63 < 2
     small b h = omega arith
+
+-- ---- a test of the difference of two exponents, from the code's test of a sum
+
+pub gap-yes : (a b k : ℕ) → a + k < b → ltb k (b - a) ≡ true
+gap-yes a b k h = lt-ltb k (b - a) (omega arith)
+
+pub gap-no : (a b k : ℕ) → b ≤ a + k → ltb k (b - a) ≡ false
+gap-no a b k h = le-ltb k (b - a) (omega arith)

@@ -1,4 +1,5 @@
-use Rattle.circle.proofs.Quarters.{tmp-no-nan, tmp-ends, gap-yes, gap-no}
+use Rattle.words.specs.Laws.{gap-yes, gap-no}
+use Rattle.circle.proofs.Quarters.{tmp-no-nan, tmp-ends}
 use borrow.Author.Needs.{needs}
 use Rattle.circle.specs.Circle.{medium}
 use Rattle.circle.proofs.medium.Statement.{statement}

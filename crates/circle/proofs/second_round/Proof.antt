@@ -1,4 +1,4 @@
-use Rattle.circle.proofs.Quarters.{gap-yes, gap-no}
+use Rattle.words.specs.Laws.{gap-yes, gap-no}
 use borrow.Author.Needs.{needs}
 use Rattle.circle.specs.Circle.{secondRound}
 use Rattle.circle.proofs.second_round.Statement.{statement}
