@@ -11,8 +11,8 @@ a refusal is proved by it, and else by the rules.
 It unfolds the crate's own unfoldable definitions that the function's `ensures` name.
 The outcome of a test of two whole numbers goes in as each test of a definition that it settles (`a < b` as `ltb a b` and
 as `leb b a`), and what a call that gives a whole number ensures goes in from right to left: the definition's word
-becomes the number that the code tested. With --trim it checks the crate once more and drops from its proofs each fact that
-`simp` never applied.
+becomes the number that the code tested.
+What a `simp` did not apply goes out again by `tools/trim.py CRATE`.
 The rules are the ruleset `rules` of each Laws.antt in the specs/ of the crate and of the crates that it needs, if there.
 A function with a loop keeps the holes of its invariant and measure. What does not close is left for you to edit.
 """
@@ -226,30 +226,5 @@ def main():
         os.makedirs(os.path.dirname(path), exist_ok=True)
         open(path, 'w', encoding='utf-8').write('\n'.join(uses) + '\n' + text)
         print('wrote', path)
-    if '--trim' in sys.argv:
-        trim(crate, env)
-
-def trim(crate, env):
-    """drop from the crate's proofs the facts that `simp` says it never applied, and the imports that then stand idle"""
-    said = subprocess.run(['rt', 'dev', crate], stdout=subprocess.PIPE, stderr=subprocess.STDOUT, text=True, env=env).stdout
-    for path in sorted(set(re.findall(r'^(\S+/Proof\.antt):\d+:\d+: note: `simp` made', said, re.M))):
-        if re.search(rf'^{re.escape(path)}:\d+:\d+: error', said, re.M):
-            continue  # what is not proved keeps all its facts
-        lines = read(path).split('\n')
-        for m in re.finditer(r'^(\S+?):(\d+):\d+: note: `simp` made .* never applied (.*) \(in `', said, re.M):
-            if os.path.abspath(m.group(1)) != os.path.abspath(path):
-                continue
-            at = int(m.group(2)) - 1
-            for fact in re.findall(r'`([^`]+)`', m.group(3)):
-                # a long fact is printed cut short
-                whole = re.escape(fact) if not fact.endswith('…') else re.escape(fact[:-1]) + r'[^,]*?(?=, |\)$)'
-                if lines[at].count('simp (') == 1:
-                    lines[at] = re.sub(rf', (?:← )?{whole}(?=, |\)$)|(?<=\()(?:← )?{whole}, ', '', lines[at], count=1)
-        text = '\n'.join(lines)
-        def keep(m):
-            names = [n for n in m.group(2).split(', ') if len(re.findall(r'(?<![\w-])' + re.escape(n) + r'(?![\w-])', text)) > 1]
-            return f'use {m.group(1)}.{{{", ".join(names)}}}\n' if names else ''
-        text = re.sub(r'^use (borrow\.Author\.Tests)\.\{(.*)\}\n', keep, text, flags=re.M)
-        open(path, 'w', encoding='utf-8').write(text)
 
 main()

@@ -24,8 +24,16 @@ def without(line, col, names):
         depth += (line[end] == '(') - (line[end] == ')')
         if depth == 0:
             break
-    kept = [e for e in split(line[at + 1:end]) if e not in names]
+    entries = split(line[at + 1:end])
+    kept = [e for e in entries if not any(e in named(n, entries) for n in names)]
     return line[:at + 1] + ', '.join(kept) + line[end:] if kept else line
+
+def named(name, entries):
+    """the entries that a note means; it cuts a long one short, and where that fits two of them neither is meant"""
+    if not name.endswith('…'):
+        return [name]
+    fit = [e for e in entries if e.startswith(name[:-1])]
+    return fit if len(fit) == 1 else []
 
 def trimmed_imports(text):
     """the text without the names that its `use` lines bring and nothing else mentions"""
@@ -53,6 +61,8 @@ def main():
     for path, line, col, names in re.findall(r'^(\S+):(\d+):(\d+): note: `simp` made \d+ round\(s\) on the goal and never applied (.*?) \(in', said, re.M):
         edits.setdefault(path, []).append((int(line), int(col), re.findall(r'`([^`]+)`', names)))
     for path, places in edits.items():
+        if re.search(rf'^{re.escape(path)}:\d+:\d+: error', said, re.M):
+            continue  # what is not proved keeps all its entries
         lines = open(path, encoding='utf-8').read().split('\n')
         for line, col, names in sorted(places, reverse=True):
             lines[line - 1] = without(lines[line - 1], col - 1, names)
