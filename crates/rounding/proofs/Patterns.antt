@@ -16,6 +16,20 @@ use lib.Ieee.Bits.{ofBits-toBits, ofBits-fits, nanBits-is, is-true, is-false, co
 use lib.Ieee.Exact.{HasValue, odd-sign, units-val}
 use Rattle.rounding.proofs.Values.{nought, zero-exponent}
 
+-- ---- from one fraction to another of the same size
+pub rescale : (x : Float) (s : Bool) (w l num den : ℕ) → 0 < l → num * l ≡ w * den → HasValue x s w l → HasValue x s num den
+rescale nan s w l num den p h v = v
+rescale (inf t) s w l num den p h v = v
+rescale (fin t m e) s w l num den p h v = (
+  v .0,
+  eq-of-mul-eq-mul-right l p (m * up e * den) (num * down e)
+      (mul-right-comm (m * up e) den l
+      ∙ ap (λ (x : ℕ). x * den) (v .1)
+      ∙ mul-right-comm w (down e) den
+      ∙ ap (λ (x : ℕ). x * down e) (sym h)
+      ∙ mul-right-comm num l (down e)),
+)
+
 -- ---- a value that fits is given by the fraction that it equals
 
 even-odd : (m t : ℕ) → m % 2 ≡ 1 → m ≡ 2 * t → ⊥
