@@ -161,15 +161,18 @@ inQuadrant m z = choose m z (neg z) (PI -ᶠ (z -ᶠ PI-LO)) ((z -ᶠ PI-LO) -�
 abbrev tooSteep : ℕ → ℕ → Bool
 tooSteep iy ix = ltb (ix + 64 * 2 ^ 20) iy || eqb iy 0x7ff00000
 
-unfoldable pub atan2 : Float → Float → Float
-atan2 y x =
+-- neither is a NaN
+unfoldable pub angle : Float → Float → Float
+angle y x =
     let ix = high-word x in
     let iy = high-word y in
     let m = 2 * sign x + sign y in
-    if isNan x || isNan y then x +ᶠ y
-    else if isOne x then atan y
+    if isOne x then atan y
     else if eqb (size y) 0 then atZeroY m y
     else if eqb (size x) 0 then quarterTurn m
     else if eqb ix 0x7ff00000 then atInfiniteX m iy
     else if tooSteep iy ix then quarterTurn m
     else inQuadrant m (ratioAngle y x)
+
+unfoldable pub atan2 : Float → Float → Float
+atan2 y x = if isNan x || isNan y then x +ᶠ y else angle y x

@@ -8,7 +8,6 @@ ghost use Rattle.arctangent.specs.Arctangent as Atan;
 use checked::bits;
 use checked::high_word;
 use words::choose;
-use words::fabs;
 use words::is_nan;
 use words::sign;
 use words::signed;
@@ -61,16 +60,6 @@ pub struct Reduced {
     pub x: f64,
     pub high: f64,
     pub low: f64,
-}
-
-fn atan_huge(x: f64) -> f64
-    ensures { λ r. ⌜ r ≡ Atan.atanHuge x ⌝ }
-{
-    if is_nan(x) {
-        x
-    } else {
-        signed(sign(x), ATANHI3 + 2.9011661e-316)
-    }
 }
 
 fn reduction(ix: u64, x: f64) -> Reduced
@@ -127,16 +116,47 @@ fn folded(r: Reduced) -> f64
     r.high - (series(r.x) - r.low - r.x)
 }
 
+// |x| of a number that is no NaN.
+fn fabs_number(x: f64) -> f64
+    requires { ⌜ T (not (Ieee.isNan x)) ⌝ }
+    ensures { λ r. ⌜ r ≡ W.fabs x ⌝ }
+{
+    f64::from_bits(f64::to_bits(x) % 0x8000_0000_0000_0000)
+}
+
+// A NaN goes first here: then no pattern read below has to be tried for one.
 pub fn atan(x: f64) -> f64
     ensures { λ r. ⌜ r ≡ Atan.atan x ⌝ }
 {
-    let ix = high_word(x);
-    if ix >= 0x4410_0000 {
-        atan_huge(x)
-    } else if ix < 0x3fdc_0000 {
-        atan_small(ix, x)
+    if is_nan(x) {
+        x
     } else {
-        signed(sign(x), folded(reduction(ix, fabs(x))))
+        let ix = high_word(x);
+        if ix >= 0x4410_0000 {
+            signed(sign(x), ATANHI3 + 2.9011661e-316)
+        } else if ix < 0x3fdc_0000 {
+            atan_small(ix, x)
+        } else {
+            signed(sign(x), folded(reduction(ix, fabs_number(x))))
+        }
+    }
+}
+
+// The arctangent of |x|.
+fn atan_size(x: f64) -> f64
+    ensures { λ r. ⌜ r ≡ Atan.atan (W.fabs x) ⌝ }
+{
+    if is_nan(x) {
+        x
+    } else {
+        let ix = high_word(x);
+        if ix >= 0x4410_0000 {
+            ATANHI3 + 2.9011661e-316
+        } else if ix < 0x3fdc_0000 {
+            atan_small(ix, fabs_number(x))
+        } else {
+            folded(reduction(ix, fabs_number(x)))
+        }
     }
 }
 
@@ -169,7 +189,7 @@ fn ratio_angle(y: f64, x: f64) -> f64
     if (sign(x) == 1) & (high_word(y) + 0x400_0000 < high_word(x)) {
         0.0
     } else {
-        atan(fabs(y / x))
+        atan_size(y / x)
     }
 }
 
@@ -179,16 +199,14 @@ fn in_quadrant(m: u64, z: f64) -> f64
     choose(m, z, -z, PI - (z - PI_LO), (z - PI_LO) - PI)
 }
 
-// The angle of the point (x, y).
-pub fn atan2(y: f64, x: f64) -> f64
-    ensures { λ r. ⌜ r ≡ Atan.atan2 y x ⌝ }
+// The angle of the point (x, y), neither a NaN.
+fn angle(y: f64, x: f64) -> f64
+    ensures { λ r. ⌜ r ≡ Atan.angle y x ⌝ }
 {
     let ix = high_word(x);
     let iy = high_word(y);
     let m = 2 * sign(x) + sign(y);
-    if is_nan(x) | is_nan(y) {
-        x + y
-    } else if is_one(x) {
+    if is_one(x) {
         atan(y)
     } else if size(y) == 0 {
         choose(m, y, y, PI, -PI)
@@ -200,5 +218,18 @@ pub fn atan2(y: f64, x: f64) -> f64
         quarter_turn(m)
     } else {
         in_quadrant(m, ratio_angle(y, x))
+    }
+}
+
+// The angle of the point (x, y).
+pub fn atan2(y: f64, x: f64) -> f64
+    ensures { λ r. ⌜ r ≡ Atan.atan2 y x ⌝ }
+{
+    if is_nan(x) {
+        x + y
+    } else if is_nan(y) {
+        x + y
+    } else {
+        angle(y, x)
     }
 }

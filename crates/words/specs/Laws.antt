@@ -115,15 +115,10 @@ fabs-fits (inf s) h = h
 fabs-fits (fin s zero e) h = h
 fabs-fits (fin s (suc m) e) h = h
 
--- a high word below the infinity's is no NaN's
-pub small-no-nan : (x : Float) (k : ℕ) → k ≡ high-word x → k < 0x7ff00000 → T (not (isNan x))
-unfolding isNan toBits
-small-no-nan nan k e h = absurd (never k e h)
-  where
-    never : (k : ℕ) → k ≡ 0x7ff80000 → k < 0x7ff00000 → ⊥
-    never k e h = omega arith
-small-no-nan (inf s) k e h = tt
-small-no-nan (fin s m d) k e h = tt
+-- the high word of a NaN
+pub nan-high : (x : Float) → isNan x ≡ true → high-word x ≡ 0x7ff80000
+unfolding toBits
+nan-high x h = ap high-word (differs-from-itself x (yes (ne-self x ∙ h)))
 
 -- a sign is 0 or 1
 pub sign-most : (x : Float) → T (fits binary64 x) → sign x < 2

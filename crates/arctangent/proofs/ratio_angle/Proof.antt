@@ -15,11 +15,8 @@ add-if1 c = search needs
 high-word-requires-2 : tie.Need-high-word-requires-2
 high-word-requires-2 c κs = search needs
 
-fabs-requires : tie.Need-fabs-requires
-fabs-requires c κs = search needs
-
-atan-requires : tie.Need-atan-requires
-atan-requires c κs = search needs
+atan-size-requires : tie.Need-atan-size-requires
+atan-size-requires c κs = search needs
 
 returns : tie.Need-returns
 unfolding ratioAngle
@@ -27,7 +24,7 @@ returns c = simp (c .if1 .taken, ← c .before .high-word2 .ensures, ← c .befo
 
 returns-2 : tie.Need-returns-2
 unfolding ratioAngle
-returns-2 c = simp (c .atan .ensures, c .before .fabs .ensures, c .before .before .if1 .left, ← c .before .before .before .high-word2 .ensures, ← c .before .before .before .before .high-word .ensures, ← c .before .before .before .before .before .sign .ensures)
+returns-2 c = simp (c .atan-size .ensures, c .before .if1 .left, ← c .before .before .high-word2 .ensures, ← c .before .before .before .high-word .ensures, ← c .before .before .before .before .sign .ensures)
 
 pub ratio-angle-spec : {M : Type 1} → statement M
 ratio-angle-spec =
@@ -37,7 +34,6 @@ ratio-angle-spec =
     high-word-requires
     add-if1
     high-word-requires-2
-    fabs-requires
-    atan-requires
+    atan-size-requires
     returns
     returns-2)
