@@ -5,6 +5,7 @@ use checked::high_word;
 use checked::of_bits;
 use checked::upper;
 use rounding::sqrt;
+use words::is_nan;
 use words::sign;
 use words::size;
 
@@ -99,19 +100,23 @@ fn acos_above(x: f64) -> f64
     2.0 * (df + w)
 }
 
-// The angle whose cosine is x; a NaN where there is none.
+// The angle whose cosine is x; a NaN where there is none. A NaN goes first here: then no pattern read below has to be tried for one.
 pub fn acos(x: f64) -> f64
     ensures { λ r. ⌜ r ≡ Roots.acos x ⌝ }
 {
-    let ix = high_word(x);
-    if ix >= 0x3ff0_0000 {
+    if is_nan(x) {
         acos_far(x)
-    } else if ix < 0x3fe0_0000 {
-        acos_near(ix, x)
-    } else if sign(x) == 0 {
-        acos_above(x)
     } else {
-        acos_below(x)
+        let ix = high_word(x);
+        if ix >= 0x3ff0_0000 {
+            acos_far(x)
+        } else if ix < 0x3fe0_0000 {
+            acos_near(ix, x)
+        } else if sign(x) == 0 {
+            acos_above(x)
+        } else {
+            acos_below(x)
+        }
     }
 }
 

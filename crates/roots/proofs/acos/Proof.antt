@@ -1,14 +1,22 @@
+use Rattle.words.specs.Laws.{nan-high}
 use borrow.Author.Needs.{needs}
 use Rattle.roots.specs.Roots.{acos}
 use borrow.Author.Tests.{lt-ltb, le-ltb, le-leb, lt-leb, eq-eqb, ne-eqb}
+use mathlib.Core.Path.{sym, _∙_}
 use Rattle.roots.proofs.acos.Statement.{statement}
 use Rattle.roots.proofs.acos.Tie as tie
+
+is-nan-requires : tie.Need-is-nan-requires
+is-nan-requires c κs = search needs
+
+acos-far-requires : tie.Need-acos-far-requires
+acos-far-requires c κs = search needs
 
 high-word-requires : tie.Need-high-word-requires
 high-word-requires c κs = search needs
 
-acos-far-requires : tie.Need-acos-far-requires
-acos-far-requires c κs = search needs
+acos-far-requires-2 : tie.Need-acos-far-requires-2
+acos-far-requires-2 c κs = search needs
 
 acos-near-requires : tie.Need-acos-near-requires
 acos-near-requires c κs = search needs
@@ -24,26 +32,32 @@ acos-below-requires c κs = search needs
 
 returns : tie.Need-returns
 unfolding acos
-returns c = simp (c .acos-far .ensures, le-leb _ _ (c .before .if1 .taken), ← c .before .before .high-word .ensures)
+returns c = simp (c .acos-far .ensures, nan-high _ (sym (c .before .before .is-nan .ensures) ∙ c .before .if1 .taken))
 
 returns-2 : tie.Need-returns-2
 unfolding acos
-returns-2 c = simp (c .acos-near .ensures, lt-ltb _ _ (c .before .if2 .taken), lt-leb _ _ (c .before .before .if1 .left), ← c .before .before .before .high-word .ensures)
+returns-2 c = simp (c .acos-far2 .ensures, le-leb _ _ (c .before .if2 .taken), ← c .before .before .high-word .ensures)
 
 returns-3 : tie.Need-returns-3
 unfolding acos
-returns-3 c = simp (c .acos-above .ensures, eq-eqb _ _ (c .before .if3 .taken), ← c .before .before .sign .ensures, le-ltb _ _ (c .before .before .before .if2 .left), lt-leb _ _ (c .before .before .before .before .if1 .left), ← c .before .before .before .before .before .high-word .ensures)
+returns-3 c = simp (c .acos-near .ensures, lt-ltb _ _ (c .before .if3 .taken), lt-leb _ _ (c .before .before .if2 .left), ← c .before .before .before .high-word .ensures)
 
 returns-4 : tie.Need-returns-4
 unfolding acos
-returns-4 c = simp (c .acos-below .ensures, ne-eqb _ _ (c .before .if3 .left), ← c .before .before .sign .ensures, le-ltb _ _ (c .before .before .before .if2 .left), lt-leb _ _ (c .before .before .before .before .if1 .left), ← c .before .before .before .before .before .high-word .ensures)
+returns-4 c = simp (c .acos-above .ensures, eq-eqb _ _ (c .before .if4 .taken), ← c .before .before .sign .ensures, le-ltb _ _ (c .before .before .before .if3 .left), lt-leb _ _ (c .before .before .before .before .if2 .left), ← c .before .before .before .before .before .high-word .ensures)
+
+returns-5 : tie.Need-returns-5
+unfolding acos
+returns-5 c = simp (c .acos-below .ensures, ne-eqb _ _ (c .before .if4 .left), ← c .before .before .sign .ensures, le-ltb _ _ (c .before .before .before .if3 .left), lt-leb _ _ (c .before .before .before .before .if2 .left), ← c .before .before .before .before .before .high-word .ensures)
 
 pub acos-spec : {M : Type 1} → statement M
 acos-spec =
     tie.close
     (tie.spec
-    high-word-requires
+    is-nan-requires
     acos-far-requires
+    high-word-requires
+    acos-far-requires-2
     acos-near-requires
     sign-requires
     acos-above-requires
@@ -51,4 +65,5 @@ acos-spec =
     returns
     returns-2
     returns-3
-    returns-4)
+    returns-4
+    returns-5)
