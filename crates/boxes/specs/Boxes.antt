@@ -1,4 +1,5 @@
 -- Boxes, and what a box call is due to answer.
+use Prim.Native.Nat.{ℕ}
 use mathlib.Core.Bool.{Bool, true, false, not, _&&_}
 use mathlib.Core.Path.{_≡_}
 use mathlib.Core.List.{List, [], _∷_, _++_, List·Memᴰ}
@@ -10,6 +11,7 @@ use Rattle.vectors.specs.Vectors.{isFinite3}
 use Rattle.checked.specs.Refusals.{BAD-BOX-OR-SUMS}
 use Rattle.checked.specs.Checked.{Checked, _>>=_, given, Due, due, refused, answered, unless}
 use Rattle.boxes.specs.declared.Bounds.{Bounds}
+use Rattle.boxes.specs.declared.Outcome.{Outcome}
 use Rattle.boxes.specs.declared.Widened.{Widened}
 use Rattle.boxes.specs.declared.Widened.the-variants as widened-variants
 
@@ -100,3 +102,22 @@ boxCall handed points b =
     (do
       ps ← points
       given (widenedBy b ps))))
+
+-- ---- calls on a lent box
+-- the box after a call: a refusal leaves it unchanged
+abbrev pub after : Bounds → Due Bounds → Bounds
+after b (due c) = c
+after b (refused n) = b
+
+-- the number that a call answers; 0 is none
+abbrev pub numberOf : Due Bounds → ℕ
+numberOf (due c) = 0
+numberOf (refused n) = n
+
+abbrev pub outcome : Bounds → Due Bounds → Outcome
+outcome b d = record { bounds = after b d; number = numberOf d }
+
+-- what a call on a lent box answers and leaves, by what it is due on a box by value
+pub record Lent (call : Bounds → Due Bounds) (entry : Bounds) (answer : ℕ) (exit : Bounds) : Type 0 where
+  pub says : answer ≡ numberOf (call entry)
+  pub leaves : exit ≡ after entry (call entry)

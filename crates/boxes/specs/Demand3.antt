@@ -10,7 +10,7 @@ use lib.Ieee.{Float}
 use Rattle.order.specs.Extremes.{Least, Greatest, Same, Within, one-least, one-greatest}
 use Rattle.vectors.specs.declared.Vec3.{Vec3}
 use Rattle.checked.specs.Checked.{Checked, Due, due, refused, settled}
-use Rattle.boxes.specs.Boxes.{Axis, at, widenedBy, free, empty, tried, passed, boxCall, Sound}
+use Rattle.boxes.specs.Boxes.{Axis, at, widenedBy, free, empty, tried, passed, boxCall, Sound, after}
 use Rattle.boxes.specs.Laws.{NumbersAll, empty-free, finite-numbers, widened-append, widened-none, widened-low, widened-high, widened-free, on-free}
 use Rattle.boxes.specs.declared.Bounds.{Bounds}
 
@@ -24,11 +24,6 @@ answer (refused n) = refused n
 abbrev pub isDue : Due Bounds → Bool
 isDue (due c) = true
 isDue (refused n) = false
-
--- the box after a call: a refusal leaves it unchanged
-abbrev pub after : Bounds → Due Bounds → Bounds
-after b (due c) = c
-after b (refused n) = b
 
 -- Edge: whatever a box call is handed, the box apart
 module _ {Edge : Type 0} (handed : Edge → Due Unit) (points : Edge → Checked (List Vec3)) where

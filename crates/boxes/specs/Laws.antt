@@ -17,7 +17,7 @@ use Rattle.vectors.specs.Vectors.{isFinite3, nines}
 use Rattle.checked.specs.Refusals.{BAD-BOX-OR-SUMS, NOT-FINITE}
 use Rattle.checked.specs.Checked.{Checked, Due, due, refused, settled, isFinite, first, given}
 use Rattle.checked.specs.Laws.{first-zero, first-none}
-use Rattle.boxes.specs.Boxes.{Axis, X, Y, Z, at, lesser, greater, widened, widenedBy, numbers, free, empty, tried, boxCall, _⧺_, AllFinite, Sound}
+use Rattle.boxes.specs.Boxes.{Axis, X, Y, Z, at, lesser, greater, widened, widenedBy, numbers, free, empty, passed, tried, boxCall, _⧺_, AllFinite, Sound}
 use Rattle.boxes.specs.declared.Bounds.{Bounds}
 
 -- first the points of one list, then those of the other
@@ -123,6 +123,15 @@ module _ (b : Bounds) (ps : List Vec3) (F : T (free b)) (all : NumbersAll ps) wh
 pub on-free : (b : Bounds) (h : Due Unit) (c : Checked (List Vec3)) → T (free b) → boxCall h c b ≡ tried h (settled (c .refusal) (widenedBy b (c .value)))
 unfolding boxCall
 on-free b h c F = simp (is-true (free b) F, first-zero)
+
+-- whatever the box, what was handed in with the edge is refused first; then a box that holds a NaN
+pub on-handed : (b : Bounds) (n : ℕ) (c : Checked (List Vec3)) → boxCall (refused n) c b ≡ refused n
+unfolding boxCall
+on-handed b n c = refl
+
+pub on-nan : (b : Bounds) (c : Checked (List Vec3)) → free b ≡ false → boxCall passed c b ≡ refused BAD-BOX-OR-SUMS
+unfolding boxCall
+on-nan b c h = simp h
 
 -- ---- computations whose points are finite where no refusal is met
 pub nines-finite : (p : Vec3) → nines p ≡ 0 → T (isFinite3 p)

@@ -24,6 +24,12 @@ pub enum Widened {
     Refused(u8),
 }
 
+// What a call leaves of the box that was lent, and the number that it answers: 0 where the edge is accepted.
+pub struct Outcome {
+    pub bounds: Bounds,
+    pub number: u8,
+}
+
 // The lesser of two in each coordinate.
 fn lesser(a: Vec3, p: Vec3) -> Vec3
     ensures { λ r. ⌜ r ≡ Boxes.lesser a p ⌝ }
@@ -63,6 +69,22 @@ pub fn settle(c: CheckedBounds) -> Widened
         Widened::Box(b)
     } else {
         Widened::Refused(r)
+    }
+}
+
+// What is left of the box b after a call with this answer: b itself where it was refused.
+pub fn after(b: Bounds, answer: Widened) -> Outcome
+    ensures { λ r. ⌜ r ≡ Boxes.outcome b (Boxes.widenedDue answer) ⌝ }
+{
+    match answer {
+        Widened::Box(c) => Outcome {
+            bounds: c,
+            number: 0,
+        },
+        Widened::Refused(n) => Outcome {
+            bounds: b,
+            number: n,
+        },
     }
 }
 

@@ -175,9 +175,15 @@ module _ (a b : Float) (not-apart : (lt a b || lt b a) ≡ false) where
   unfolding least
   least-nan e = simp (not-below, not-above, e) (nan-add binary64 a b (one-is-nan e))
 
-  pub greatest-nan : eq a b ≡ false → add binary64 a b ≡ greatest a b
+  pub greatest-nan : eq a b ≡ false → add binary64 b a ≡ greatest a b
   unfolding greatest
-  greatest-nan e = simp (not-below, not-above, e) (nan-add binary64 a b (one-is-nan e))
+  greatest-nan e = simp (not-below, not-above, e) (nan-add binary64 b a (swap (isNan a) (isNan b) (one-is-nan e)))
+    where
+      swap : (p q : Bool) → T (p || q) → T (q || p)
+      swap true true h = tt
+      swap true false h = tt
+      swap false true h = tt
+      swap false false h = h
 
   module _ (A : T (fits binary64 a)) (B : T (fits binary64 b)) (equal : eq a b ≡ true) where
     pub least-zeros : eq a (zeroOf false) ≡ true → neg (sub binary64 (neg a) b) ≡ least a b

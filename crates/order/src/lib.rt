@@ -26,5 +26,5 @@ pub fn greatest(a: f64, b: f64) -> f64
     if a == b {
         return if a == 0.0 { a + b } else { a };
     }
-    a + b
+    b + a
 }
