@@ -15,7 +15,7 @@ use Rattle.order.specs.Extremes.{Least, Greatest, fold, AllNumbers, lowest, hig
 use Rattle.vectors.specs.declared.Vec3.{Vec3}
 use Rattle.vectors.specs.Vectors.{isFinite3, nines}
 use Rattle.checked.specs.Refusals.{BAD-BOX-OR-SUMS, NOT-FINITE}
-use Rattle.checked.specs.Checked.{Checked, Due, due, refused, settled, isFinite, first, given}
+use Rattle.checked.specs.Checked.{Checked, Due, due, refused, settled, isFinite, first, given, unless}
 use Rattle.checked.specs.Laws.{first-zero, first-none}
 use Rattle.boxes.specs.Boxes.{Axis, X, Y, Z, at, lesser, greater, widened, widenedBy, numbers, free, empty, passed, tried, boxCall, _⧺_, AllFinite, Sound}
 use Rattle.boxes.specs.declared.Bounds.{Bounds}
@@ -34,8 +34,6 @@ widened-none b = refl
 pub widened-cons : (b : Bounds) (p : Vec3) (ps : List Vec3) → widenedBy b (p ∷ ps) ≡ widenedBy (widened b p) ps
 unfolding widenedBy
 widened-cons b p ps = refl
-
-pub ruleset rules = (_⧺_, widened-append, widened-none, widened-cons)
 
 -- ---- a coordinate of the box is the least, or the greatest, of that coordinate's numbers
 pub low-at : (k : Axis) (b : Bounds) (ps : List Vec3) → at k (widenedBy b ps .low) ≡ fold least (at k (b .low)) (map (at k) ps)
@@ -119,19 +117,24 @@ module _ (b : Bounds) (ps : List Vec3) (F : T (free b)) (all : NumbersAll ps) wh
       (numbers-of (widenedBy b ps .low) (λ k. cons-numbers (at k (b .low)) (map (at k) ps) (number-at k (b .low) (free-low b F)) (map-numbers k ps all) (at k (widenedBy b ps .low)) (widened-low k .among)))
       (numbers-of (widenedBy b ps .high) (λ k. cons-numbers (at k (b .high)) (map (at k) ps) (number-at k (b .high) (free-high b F)) (map-numbers k ps all) (at k (widenedBy b ps .high)) (widened-high k .among)))
 
--- ---- a box call on a box free of NaN
-pub on-free : (b : Bounds) (h : Due Unit) (c : Checked (List Vec3)) → T (free b) → boxCall h c b ≡ tried h (settled (c .refusal) (widenedBy b (c .value)))
+-- ---- box calls
+-- written out, for rewriting
+pub call-is : (h : Due Unit) (c : Checked (List Vec3)) (b : Bounds) → boxCall h c b ≡ tried h (unless BAD-BOX-OR-SUMS (free b) (settled (c .refusal) (widenedBy b (c .value))))
 unfolding boxCall
-on-free b h c F = simp (is-true (free b) F, first-zero)
+call-is h c b = simp first-zero
+
+pub ruleset rules = (call-is, _⧺_, widened-append, widened-none, widened-cons)
+
+-- on a box free of NaN
+pub on-free : (b : Bounds) (h : Due Unit) (c : Checked (List Vec3)) → T (free b) → boxCall h c b ≡ tried h (settled (c .refusal) (widenedBy b (c .value)))
+on-free b h c F = simp (call-is, is-true (free b) F)
 
 -- whatever the box, what was handed in with the edge is refused first; then a box that holds a NaN
 pub on-handed : (b : Bounds) (n : ℕ) (c : Checked (List Vec3)) → boxCall (refused n) c b ≡ refused n
-unfolding boxCall
-on-handed b n c = refl
+on-handed b n c = call-is (refused n) c b
 
 pub on-nan : (b : Bounds) (c : Checked (List Vec3)) → free b ≡ false → boxCall passed c b ≡ refused BAD-BOX-OR-SUMS
-unfolding boxCall
-on-nan b c h = simp h
+on-nan b c h = simp (call-is, h)
 
 -- ---- computations whose points are finite where no refusal is met
 pub nines-finite : (p : Vec3) → nines p ≡ 0 → T (isFinite3 p)
