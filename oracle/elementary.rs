@@ -39,7 +39,7 @@ mod rust {
     }
 }
 
-pub mod second {
+mod second {
     pub use super::rust::{acos, atan2, hypot};
 
     /// An angle that is not finite makes a sine that is not, and one too large is not worked out at all.

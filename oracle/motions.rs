@@ -39,7 +39,7 @@ mod rust {
     }
 }
 
-pub mod second {
+mod second {
     use crate::track::{Vec3, answer, answer_vec3, in_range, num, vec3};
 
     pub fn rotation(axis: &[f64; 3], angle: f64, out: &mut [f64; 12]) -> u32 {

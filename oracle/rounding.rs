@@ -26,7 +26,7 @@ mod rust {
     }
 }
 
-pub mod second {
+mod second {
     #[inline(never)]
     pub fn sqrt(x: f64) -> f64 {
         libm::sqrt(x)

@@ -53,7 +53,7 @@ mod rust {
     }
 }
 
-pub mod second {
+mod second {
     use crate::track::{answer, answer_vec3, in_range, num, vec3};
 
     pub fn dot(a: &[f64; 3], b: &[f64; 3], out: &mut [f64; 1]) -> u32 {
