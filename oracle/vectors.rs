@@ -54,43 +54,29 @@ mod rust {
 }
 
 mod second {
-    use crate::track::{answer, answer_vec3, in_range, num, vec3};
+    use crate::track::{Vec3, answer, answer_vec3, in_range, num, vec3};
+
+    fn of_two(a: &[f64; 3], b: &[f64; 3], out: &mut [f64; 3], formula: fn(Vec3, Vec3) -> Vec3) -> u32 {
+        if in_range(&[a, b]) { answer_vec3(out, formula(vec3(a), vec3(b))) } else { 1 }
+    }
 
     pub fn dot(a: &[f64; 3], b: &[f64; 3], out: &mut [f64; 1]) -> u32 {
-        if !in_range(&[a, b]) {
-            return 1;
-        }
-        answer(out, [vec3(a).dot(vec3(b))])
+        if in_range(&[a, b]) { answer(out, [vec3(a).dot(vec3(b))]) } else { 1 }
     }
     pub fn cross(a: &[f64; 3], b: &[f64; 3], out: &mut [f64; 3]) -> u32 {
-        if !in_range(&[a, b]) {
-            return 1;
-        }
-        answer_vec3(out, vec3(a).cross(vec3(b)))
+        of_two(a, b, out, Vec3::cross)
     }
     pub fn sum(a: &[f64; 3], b: &[f64; 3], out: &mut [f64; 3]) -> u32 {
-        if !in_range(&[a, b]) {
-            return 1;
-        }
-        answer_vec3(out, vec3(a) + vec3(b))
+        of_two(a, b, out, |a, b| a + b)
     }
     pub fn difference(a: &[f64; 3], b: &[f64; 3], out: &mut [f64; 3]) -> u32 {
-        if !in_range(&[a, b]) {
-            return 1;
-        }
-        answer_vec3(out, vec3(a) - vec3(b))
+        of_two(a, b, out, |a, b| a - b)
     }
     pub fn negation(a: &[f64; 3], out: &mut [f64; 3]) -> u32 {
-        if !in_range(&[a]) {
-            return 1;
-        }
-        answer_vec3(out, -vec3(a))
+        if in_range(&[a]) { answer_vec3(out, -vec3(a)) } else { 1 }
     }
     pub fn times(a: &[f64; 3], k: f64, out: &mut [f64; 3]) -> u32 {
-        if !in_range(&[a, &[k]]) {
-            return 1;
-        }
-        answer_vec3(out, vec3(a) * num(k))
+        if in_range(&[a, &[k]]) { answer_vec3(out, vec3(a) * num(k)) } else { 1 }
     }
     /// The first coordinate that no other exceeds in magnitude.
     pub fn dominant_axis(a: &[f64; 3], out: &mut [u32; 1]) -> u32 {
