@@ -1,0 +1,14 @@
+use Rattle.angles.specs.Angles.{backC}
+use Rattle.angles.proofs.back.Statement.{statement}
+use Rattle.angles.proofs.back.Tie as tie
+
+returns : tie.Need-returns
+unfolding backC
+returns c = simp (c .if1 .taken)
+
+returns-2 : tie.Need-returns-2
+unfolding backC
+returns-2 c = simp (c .if1 .left)
+
+pub back-spec : {M : Type 1} → statement M
+back-spec = tie.close (tie.spec returns returns-2)

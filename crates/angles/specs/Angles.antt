@@ -1,0 +1,25 @@
+-- Angles turned about a centre.
+use mathlib.Core.Bool.{cond}
+use lib.Ieee.{Float, binary64, le, ofBits}
+use Rattle.checked.specs.Checked.{Checked, first, _>>=_, given, finite, num, _⊕_, _⊖_}
+use Rattle.arctangent.specs.Arctangent.{atan2}
+use Rattle.vectors.specs.Vectors.{zero}
+
+-- 2π rounded, 6.283185307179586
+abbrev pub tau : Float
+tau = ofBits binary64 0x4019_21fb_5444_2d18
+
+-- the angle of the direction (x, y), in [−π, π]
+abbrev pub atan2C : Checked Float → Checked Float → Checked Float
+atan2C m n = do
+  y ← m
+  x ← n
+  finite (atan2 y x)
+
+-- a turn counterclockwise, in (0, 2π]: at or below 0 it gains 2π
+unfoldable pub aheadC : Float → Checked Float
+aheadC t = cond (le t zero) (num t ⊕ num tau) (num t)
+
+-- a turn clockwise, in [−2π, 0): at or above 0 it loses 2π
+unfoldable pub backC : Float → Checked Float
+backC t = cond (le zero t) (num t ⊖ num tau) (num t)

@@ -1,0 +1,2 @@
+pub mod Angles
+pub mod Laws

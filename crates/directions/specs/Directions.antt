@@ -1,0 +1,36 @@
+-- Unit vectors: along a vector, and away from an axis.
+use lib.Ieee.{Float, binary64}
+use Rattle.checked.specs.Refusals.{OUT-OF-RANGE}
+use Rattle.checked.specs.Checked.{Checked, first, _>>=_, given, finite, num, _⊘_, Due, answered, unless}
+use Rattle.rounding.specs.Root.{sqrt}
+use Rattle.vectors.specs.declared.Vec3.{Vec3}
+use Rattle.vectors.specs.Vectors.{one, within3, vec, _⊟_, _⊠_, _⊡_}
+
+-- the square root
+abbrev pub sqrtC : Checked Float → Checked Float
+sqrtC m = do
+  x ← m
+  finite (sqrt binary64 x)
+
+-- the length of a vector
+unfoldable pub lengthC : Vec3 → Checked Float
+lengthC v = sqrtC (vec v ⊡ vec v)
+
+-- the vector of length 1 along v: `v * (1.0 / v.dot(v).sqrt())`
+unfoldable pub unitC : Vec3 → Checked Vec3
+unitC v = vec v ⊠ (num one ⊘ lengthC v)
+
+-- what is left of d across the axis: `d - axis * d.dot(axis)`
+unfoldable pub acrossC : Vec3 → Vec3 → Checked Vec3
+acrossC axis d = vec d ⊟ vec axis ⊠ (vec d ⊡ vec axis)
+
+-- the unit vector from the axis through `origin` along `axis` towards p
+unfoldable pub radialC : Vec3 → Vec3 → Vec3 → Checked Vec3
+radialC origin axis p = do
+  d ← vec p ⊟ vec origin
+  a ← acrossC axis d
+  unitC a
+
+-- `unit`, an entry
+unfoldable pub unitDue : Vec3 → Due Vec3
+unitDue v = unless OUT-OF-RANGE (within3 v) (answered (unitC v))

@@ -1,0 +1,22 @@
+// Unit vectors: along a vector, and away from an axis. What a program may call is here, the bare formulas are in `formula`.
+ghost use mathlib.Core.Path.{_≡_};
+ghost use Rattle.vectors.specs.Entries.{vectorDue};
+ghost use Rattle.directions.specs.Directions.{unitDue};
+use checked::OUT_OF_RANGE;
+use vectors::Vec3;
+use vectors::Vector;
+use vectors::is_within3;
+use vectors::settle;
+
+pub mod formula;
+
+// The vector of length 1 along v.
+pub fn unit(v: Vec3) -> Vector
+    ensures { λ r. ⌜ vectorDue r ≡ unitDue v ⌝ }
+{
+    if is_within3(v) {
+        settle(formula::unit(v))
+    } else {
+        Vector::Refused(OUT_OF_RANGE)
+    }
+}
