@@ -9,7 +9,8 @@ use lib.Seq.{drop-cons, drop-set-lt, getD-set-same, lt-length-set, append-snoc}
 use Rattle.decimals.specs.Digits.{glyph, spelled, digits}
 use Rattle.decimals.specs.DigitLaws.{ahead, ahead-some, fewer, spelled-suc, digits-are}
 
-drop-set : (l : List ℕ) (i a : ℕ) → i < length l → drop i (set l i a) ≡ a ∷ drop (suc i) l
+-- what stands from a place on, after a store there
+pub drop-set : (l : List ℕ) (i a : ℕ) → i < length l → drop i (set l i a) ≡ a ∷ drop (suc i) l
 drop-set l i a h =
     drop-cons (set l i a) i 0 (lt-length-set l i a h)
     ∙ ap (λ (x : ℕ). x ∷ drop (suc i) (set l i a)) (getD-set-same l i a 0 h)

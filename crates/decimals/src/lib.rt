@@ -60,7 +60,7 @@ pub fn thousandths(x: f64) -> CheckedWhole
 // Puts the decimal digits of n at the end of out, and answers where they begin.
 pub fn digits(n: u64, out: &mut [u8; 20]) -> usize
     ensures { λ r. ⌜ drop r (now (out .exit)) ≡ Digits.digits n ⌝ }
-    ensures { λ r. ⌜ r < length (now (out .exit)) ⌝ }
+    ensures { λ r. ⌜ (r < 20) × (length (now (out .exit)) ≡ 20) ⌝ }
 {
     spell(n, out)
 }
@@ -69,7 +69,7 @@ pub fn digits(n: u64, out: &mut [u8; 20]) -> usize
 fn spell(n: u64, out: &mut [u8]) -> usize
     requires { ⌜ length (now out) ≡ 20 ⌝ }
     ensures { λ r. ⌜ drop r (now (out .exit)) ≡ Digits.digits n ⌝ }
-    ensures { λ r. ⌜ r < length (now (out .exit)) ⌝ }
+    ensures { λ r. ⌜ (r < 20) × (length (now (out .exit)) ≡ 20) ⌝ }
 {
     let mut i = 19;
     let mut rest = n / 10;

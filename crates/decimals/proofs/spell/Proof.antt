@@ -65,7 +65,7 @@ returns : tie.Need-returns Inv-loop μ-loop
 returns c =
     let l = c .before .loop in
     let none : l .rest ≡ 0 = omega arith in
-    (sym (ap (λ r. r ++ drop (l .i) (l .out)) (ahead-zero (l .i) (l .rest) none)) ∙ l .inv .3, omega arith)
+    (sym (ap (λ r. r ++ drop (l .i) (l .out)) (ahead-zero (l .i) (l .rest) none)) ∙ l .inv .3, (omega arith, omega arith))
 
 pub spell-spec : {M : Type 1} → statement M
 spell-spec =

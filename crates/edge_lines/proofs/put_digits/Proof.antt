@@ -1,0 +1,39 @@
+use mathlib.Core.Path.{_∙_, ap}
+use mathlib.Core.List.{_++_}
+use native.Mathlib.Omega.{arith}
+use lib.ListN.{drop}
+use Rattle.decimals.specs.Digits.{digits}
+use Rattle.edge_lines.proofs.Before.{to-end}
+use borrow.Author.Needs.{needs}
+use Rattle.edge_lines.proofs.put_digits.Statement.{statement}
+use Rattle.edge_lines.proofs.put_digits.Tie as tie
+
+digits-requires : tie.Need-digits-requires
+digits-requires c κs = search needs
+
+sub-put : tie.Need-sub-put
+sub-put c = search needs
+
+part-put-start : tie.Need-part-put-start
+part-put-start c = search needs
+
+part-put-end : tie.Need-part-put-end
+part-put-end c = search needs
+
+put-requires : tie.Need-put-requires
+put-requires c κs = search needs
+
+same-length : tie.Need-same-length
+same-length c = search needs
+
+returns : tie.Need-returns
+returns c =
+    let p = c .before .before .put in
+    let d = c .before .before .before .before .before .before .digits in
+    let a = c .before .before .before .before .before .before .before .before .before .args in
+    ((omega arith, omega arith), p .ensures .1 ∙ ap (λ l. l ++ drop (a .at) (a .out .now)) (to-end (d .last .1 .0) (digits (a .n)) (d .result) 20 (d .ensures .1 .1) (d .ensures .0)))
+
+pub put-digits-spec : {M : Type 1} → statement M
+put-digits-spec =
+    tie.close
+    (tie.spec digits-requires sub-put part-put-start part-put-end put-requires same-length returns)
