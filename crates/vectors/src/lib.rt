@@ -88,7 +88,7 @@ pub fn settle(c: CheckedVec3) -> Vector
 }
 
 // The vector, or a refusal where one of its numbers is not finite.
-fn tried(v: Vec3) -> Vector
+pub fn tried(v: Vec3) -> Vector
     ensures { λ r. ⌜ vectorDue r ≡ settled (nines v) v ⌝ }
 {
     settle(CheckedVec3 {

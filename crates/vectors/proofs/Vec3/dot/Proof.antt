@@ -24,7 +24,7 @@ returns c = simp (c .settle .ensures, c .before .note .ensures, c .before .befor
 
 returns-2 : tie.Need-returns-2
 unfolding dotDue
-returns-2 c = simp (sym (c .before .are-within .ensures) ∙ c .if1 .left, checked-rules, vectors-rules)
+returns-2 c = simp (sym (c .before .are-within .ensures) ∙ c .if1 .left, vectors-rules)
 
 pub dot-spec : {M : Type 1} → statement M
 dot-spec =
