@@ -13,10 +13,10 @@ use Rattle.order.specs.Order.{Number}
 use Rattle.order.specs.Least.{least, greatest}
 use Rattle.order.specs.Extremes.{Least, Greatest, fold, AllNumbers, lowest, highest}
 use Rattle.vectors.specs.declared.Vec3.{Vec3}
-use Rattle.vectors.specs.Vectors.{isFinite3, nines}
+use Rattle.vectors.specs.Vectors.{isFinite3, nines, within3}
 use Rattle.checked.specs.Refusals.{BAD-BOX-OR-SUMS, NOT-FINITE}
-use Rattle.checked.specs.Checked.{Checked, Due, due, refused, settled, isFinite, first, given, unless}
-use Rattle.checked.specs.Laws.{first-zero, first-none}
+use Rattle.checked.specs.Checked.{Checked, Due, due, refused, settled, isFinite, within, first, given, unless}
+use Rattle.checked.specs.Laws.{first-zero, first-none, within-finite}
 use Rattle.boxes.specs.Boxes.{Axis, X, Y, Z, at, lesser, greater, widened, widenedBy, numbers, free, empty, passed, tried, boxCall, _⧺_, AllFinite, Sound}
 use Rattle.boxes.specs.declared.Bounds.{Bounds}
 
@@ -136,7 +136,23 @@ on-handed b n c = call-is (refused n) c b
 pub on-nan : (b : Bounds) (c : Checked (List Vec3)) → free b ≡ false → boxCall passed c b ≡ refused BAD-BOX-OR-SUMS
 on-nan b c h = simp (call-is, h)
 
+-- a test that what was handed in has passed, and the tests after it
+pub passes : (n : ℕ) (t : Bool) (rest : Due Unit) → unless n t rest ≡ passed → T t × (rest ≡ passed)
+passes n true rest h = (tt, h)
+passes n false rest h = absurd (subst (λ (d : Due Unit). T (isPassed d)) (sym h) tt)
+  where
+    isPassed : Due Unit → Bool
+    isPassed (due u) = true
+    isPassed (refused n) = false
+
 -- ---- computations whose points are finite where no refusal is met
+pub within-finite3 : (v : Vec3) → T (within3 v) → T (isFinite3 v)
+unfolding within3 isFinite3
+within-finite3 v h =
+    let yz = and-r (within (v .x)) (within (v .y) && within (v .z)) h in
+    and-i (isFinite (v .x)) (isFinite (v .y) && isFinite (v .z)) (within-finite (v .x) (and-l (within (v .x)) (within (v .y) && within (v .z)) h))
+    (and-i (isFinite (v .y)) (isFinite (v .z)) (within-finite (v .y) (and-l (within (v .y)) (within (v .z)) yz)) (within-finite (v .z) (and-r (within (v .y)) (within (v .z)) yz)))
+
 pub nines-finite : (p : Vec3) → nines p ≡ 0 → T (isFinite3 p)
 unfolding nines
 nines-finite p h = cases (isFinite3 p) h

@@ -2,3 +2,4 @@ pub mod Least
 pub mod Order
 pub mod Value
 pub mod Extremes
+pub mod Examples
