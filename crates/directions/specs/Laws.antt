@@ -1,34 +1,19 @@
 -- Which notes of a root, a length, a unit vector are needless.
-use Prim.Native.Nat.{ℕ, zero, suc}
 use mathlib.Core.Path.{_≡_, refl}
-use mathlib.Core.Bool.{Bool, true, false, _||_}
+use mathlib.Core.Bool.{Bool, _||_}
 use lib.Dec.{T}
-use lib.Ieee.{Float, nan, inf, fin, Format, binary64, mul}
+use lib.Ieee.{Float, binary64}
 use Rattle.checked.specs.Checked.{Checked, first, nine, isFinite}
 use Rattle.checked.specs.Laws.{tells, one, two, alone, rules as checked-rules}
-use Rattle.rounding.specs.Root.{sqrt}
+use Rattle.rounding.specs.Laws.{sqrt-under, rounded}
 use Rattle.vectors.specs.declared.Vec3.{Vec3}
 use Rattle.vectors.specs.Vectors.{isFinite3, nines, minusC, timesC, dotC}
 use Rattle.vectors.specs.Laws.{alone3, dot-left, times-left, minus-left, minus-right, rules as vectors-rules}
 use Rattle.directions.specs.Directions.{sqrtC, lengthC, unitC, acrossC, radialC}
 
--- a root is finite only where what it is the root of is
-pub sqrt-under : (f : Format) (x : Float) → T (isFinite (sqrt f x)) → T (isFinite x)
-unfolding sqrt isFinite
-sqrt-under f nan h = h
-sqrt-under f (inf true) h = h
-sqrt-under f (inf false) h = h
-sqrt-under f (fin s m e) h = tt
-
-pub sqrt-tells : (x : Float) (p : Bool) → tells (isFinite (sqrt binary64 x)) p ≡ (tells (isFinite x) p || tells (isFinite (alone (sqrt binary64 x))) p)
-unfolding alone
-sqrt-tells x p = one (isFinite (sqrt binary64 x)) (isFinite x) p (sqrt-under binary64 x)
-
-ruleset roots = (sqrtC, sqrt-tells)
-
 pub length-nine : (v : Vec3) → lengthC v .refusal ≡ nine (lengthC v .value)
 unfolding lengthC
-length-nine v = simp (roots, checked-rules, vectors-rules)
+length-nine v = simp (sqrtC, rounded, checked-rules, vectors-rules)
 
 pub length-tells : (v : Vec3) (p : Bool) → tells (isFinite (lengthC v .value)) p ≡ (tells (isFinite3 v) p || tells (isFinite (alone (lengthC v .value))) p)
 unfolding lengthC alone
@@ -52,7 +37,7 @@ unit-refusal v = simp (length-nine, checked-rules, vectors-rules)
 
 pub ruleset opened = (sqrtC, length-nine, across-nine)
 
-pub ruleset absorbed = (sqrt-tells, length-tells, across-tells)
+pub ruleset absorbed = (rounded, length-tells, across-tells)
 
 pub ruleset rules = (opened, absorbed)
 

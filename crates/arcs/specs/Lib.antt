@@ -1,0 +1,4 @@
+pub mod Arcs
+pub mod Extremes
+pub mod Entries
+pub mod Laws

@@ -1,0 +1,104 @@
+// The arc of an edge: what a program may call is here, the bare formulas are in `formula`.
+ghost use mathlib.Core.Path.{_≡_};
+ghost use mathlib.Core.Bool.{_&&_};
+ghost use Rattle.checked.specs.Checked.{numberDue, settled, within};
+ghost use Rattle.vectors.specs.Vectors.{within3};
+ghost use Rattle.vectors.specs.Entries.{vectorDue};
+ghost use Rattle.boxes.specs.Boxes.{widenedDue};
+ghost use Rattle.arcs.specs.Entries.{arcDue, arcWithin, endsWithin, reversedDue, sweepDue, atDue, extendDue};
+use checked::Number;
+use checked::OUT_OF_RANGE;
+use checked::is_within;
+use vectors::Vec3;
+use vectors::Vector;
+use vectors::is_within3;
+
+pub mod formula;
+
+// An arc counterclockwise about `axis`, a unit vector, around `center`.
+pub struct Arc {
+    pub center: Vec3,
+    pub axis: Vec3,
+    pub radius: f64,
+}
+
+// An arc, with the refusal that its computation met first; 0 is none.
+pub struct CheckedArc {
+    pub refusal: u8,
+    pub value: Arc,
+}
+
+// The answer of an entry whose result is an arc.
+pub enum ArcAnswer {
+    Value(Arc),
+    Refused(u8),
+}
+
+// The arc, or its refusal where there is one.
+fn settle(c: CheckedArc) -> ArcAnswer
+    ensures { λ r. ⌜ arcDue r ≡ settled (c .refusal) (c .value) ⌝ }
+{
+    let r = c.refusal;
+    let a = c.value;
+    if r == 0 {
+        ArcAnswer::Value(a)
+    } else {
+        ArcAnswer::Refused(r)
+    }
+}
+
+impl Arc {
+    // Every number of the arc passes the test of what is handed in.
+    pub fn is_within(self) -> bool
+        ensures { λ r. ⌜ r ≡ arcWithin self ⌝ }
+    {
+        let c = self.center;
+        let a = self.axis;
+        is_within3(c) & (is_within3(a) & is_within(self.radius))
+    }
+
+    fn ends_within(self, from: Vec3, to: Vec3) -> bool
+        ensures { λ r. ⌜ r ≡ endsWithin self from to ⌝ }
+    {
+        self.is_within() & (is_within3(from) & is_within3(to))
+    }
+
+    fn angle_within(self, from: Vec3, t: f64) -> bool
+        ensures { λ r. ⌜ r ≡ (arcWithin self && (within3 from && within t)) ⌝ }
+    {
+        self.is_within() & (is_within3(from) & is_within(t))
+    }
+
+    // The same arc run the other way.
+    pub fn reversed(self) -> ArcAnswer
+        ensures { λ r. ⌜ arcDue r ≡ reversedDue self ⌝ }
+    {
+        if self.is_within() {
+            settle(formula::reversed(self))
+        } else {
+            ArcAnswer::Refused(OUT_OF_RANGE)
+        }
+    }
+
+    // The angle turned counterclockwise about the axis from one point to another; one point twice is a full circle.
+    pub fn sweep(self, from: Vec3, to: Vec3) -> Number
+        ensures { λ r. ⌜ numberDue r ≡ sweepDue self from to ⌝ }
+    {
+        if self.ends_within(from, to) {
+            checked::settle(formula::sweep(self, from, to))
+        } else {
+            Number::Refused(OUT_OF_RANGE)
+        }
+    }
+
+    // The point at the angle t from `from`, counterclockwise about the axis.
+    pub fn at(self, from: Vec3, t: f64) -> Vector
+        ensures { λ r. ⌜ vectorDue r ≡ atDue self from t ⌝ }
+    {
+        if self.angle_within(from, t) {
+            vectors::settle(formula::at(self, from, t))
+        } else {
+            Vector::Refused(OUT_OF_RANGE)
+        }
+    }
+}
