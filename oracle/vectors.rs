@@ -10,7 +10,7 @@ unsafe extern "C" {
     safe fn jr_difference(a: &[f64; 3], b: &[f64; 3], out: &mut [f64; 3]) -> u32;
     safe fn jr_negation(a: &[f64; 3], out: &mut [f64; 3]) -> u32;
     safe fn jr_times(a: &[f64; 3], k: f64, out: &mut [f64; 3]) -> u32;
-    safe fn jr_dominant_axis(a: &[f64; 3], out: &mut [u32; 1]) -> u32;
+    safe fn jr_dominant_axis(a: &[f64; 3], out: &mut [u64; 1]) -> u32;
 }
 
 mod rust {
@@ -47,8 +47,8 @@ mod rust {
         0
     }
     #[inline(never)]
-    pub fn dominant_axis(a: &[f64; 3], out: &mut [u32; 1]) -> u32 {
-        out[0] = Vec3::from(*a).dominant_axis() as u32;
+    pub fn dominant_axis(a: &[f64; 3], out: &mut [u64; 1]) -> u32 {
+        out[0] = Vec3::from(*a).dominant_axis() as u64;
         0
     }
 }
@@ -79,7 +79,7 @@ mod second {
         if in_range(&[a, &[k]]) { answer_vec3(out, vec3(a) * num(k)) } else { 1 }
     }
     /// The first coordinate that no other exceeds in magnitude.
-    pub fn dominant_axis(a: &[f64; 3], out: &mut [u32; 1]) -> u32 {
+    pub fn dominant_axis(a: &[f64; 3], out: &mut [u64; 1]) -> u32 {
         if !in_range(&[a]) {
             return 1;
         }

@@ -1,7 +1,7 @@
 use borrow.Author.Needs.{needs}
 use Rattle.exports.specs.Records.{numberOf, after1}
-use Rattle.exports.proofs.store_number.Statement.{statement}
-use Rattle.exports.proofs.store_number.Tie as tie
+use Rattle.exports.proofs.records.store_number.Statement.{statement}
+use Rattle.exports.proofs.records.store_number.Tie as tie
 
 enum-known-n : tie.Need-enum-known-n
 enum-known-n c = search needs

@@ -1,7 +1,7 @@
 use borrow.Author.Needs.{needs}
 use Rattle.exports.specs.Records.{numberOf, after3}
-use Rattle.exports.proofs.store_vector.Statement.{statement}
-use Rattle.exports.proofs.store_vector.Tie as tie
+use Rattle.exports.proofs.records.store_vector.Statement.{statement}
+use Rattle.exports.proofs.records.store_vector.Tie as tie
 
 enum-known-v : tie.Need-enum-known-v
 enum-known-v c = search needs

@@ -1,0 +1,19 @@
+use borrow.Author.Needs.{needs}
+use Rattle.exports.proofs.of_motions.jr_rotation.Statement.{statement}
+use Rattle.exports.proofs.of_motions.jr_rotation.Tie as tie
+
+vec3-of-requires : tie.Need-vec3-of-requires
+vec3-of-requires c κs = search needs
+
+rotation-requires : tie.Need-rotation-requires
+rotation-requires c κs = search needs
+
+store-motion-requires : tie.Need-store-motion-requires
+store-motion-requires c κs = search needs
+
+returns : tie.Need-returns
+returns c = (simp (c .store-motion .ensures .0, c .before .before .rotation .ensures, c .before .before .before .vec3-of .ensures), simp (c .store-motion .ensures .1, c .before .before .rotation .ensures, c .before .before .before .vec3-of .ensures))
+
+pub jr-rotation-spec : {M : Type 1} → statement M
+jr-rotation-spec =
+    tie.close (tie.spec vec3-of-requires rotation-requires store-motion-requires returns)

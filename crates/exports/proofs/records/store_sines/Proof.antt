@@ -1,0 +1,30 @@
+use borrow.Author.Needs.{needs}
+use Rattle.checked.specs.Laws.{settled-some, settled-none}
+use Rattle.exports.specs.Records.{numberOf, after2}
+use Rattle.exports.proofs.records.store_sines.Statement.{statement}
+use Rattle.exports.proofs.records.store_sines.Tie as tie
+
+element-write-out : tie.Need-element-write-out
+element-write-out c = search needs
+
+element-write-out-2 : tie.Need-element-write-out-2
+element-write-out-2 c = search needs
+
+returns : tie.Need-returns
+unfolding numberOf after2
+returns c = (simp (c .if1 .taken, settled-none), simp (c .if1 .taken, settled-none))
+
+cast-result : tie.Need-cast-result
+cast-result c = search needs
+
+returns-2 : tie.Need-returns-2
+unfolding numberOf after2
+returns-2 c =
+    let a = c .before .args .a in
+    let e = settled-some (a .refusal) (a .value) (c .if1 .left) in
+    (simp e, simp e)
+
+pub store-sines-spec : {M : Type 1} → statement M
+store-sines-spec =
+    tie.close
+    (tie.spec element-write-out element-write-out-2 returns cast-result returns-2)

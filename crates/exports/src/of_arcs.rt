@@ -1,0 +1,73 @@
+// Directions, profile arcs and arcs.
+ghost use mathlib.Core.Path.{_≡_};
+ghost use Rattle.directions.specs.Directions as Directions;
+ghost use Rattle.profiles.specs.Profiles as Profiles;
+ghost use Rattle.arcs.specs.Entries as Arcs;
+ghost use Rattle.exports.specs.Records.{vec2, vec3, arc, profileArc, numberOf, after1, after3, after7};
+use crate::records::arc_of;
+use crate::records::store_arc;
+use crate::records::store_number;
+use crate::records::store_vector;
+use crate::records::vec2_of;
+use crate::records::vec3_of;
+use profiles::ProfileArc;
+
+#[no_mangle]
+pub extern "C" fn jr_unit(v: &[f64; 3], out: &mut [f64; 3]) -> u32
+    ensures number { λ r. ⌜ r ≡ numberOf (Directions.unitDue (vec3 (now (v .entry)))) ⌝ }
+    ensures out { λ _. ⌜ now (out .exit) ≡ after3 (now (out .entry)) (Directions.unitDue (vec3 (now (v .entry)))) ⌝ }
+{
+    let u = vec3_of(v);
+    store_vector(directions::unit(u), out)
+}
+
+#[no_mangle]
+pub extern "C" fn jr_turn(
+    center: &[f64; 2],
+    ccw: bool,
+    a: &[f64; 2],
+    b: &[f64; 2],
+    out: &mut [f64; 1],
+) -> u32
+    ensures number { λ r. ⌜ r ≡ numberOf (Profiles.turnDue (profileArc (now (center .entry)) ccw) (vec2 (now (a .entry))) (vec2 (now (b .entry)))) ⌝ }
+    ensures out { λ _. ⌜ now (out .exit) ≡ after1 (now (out .entry)) (Profiles.turnDue (profileArc (now (center .entry)) ccw) (vec2 (now (a .entry))) (vec2 (now (b .entry)))) ⌝ }
+{
+    let c = vec2_of(center);
+    let p = vec2_of(a);
+    let q = vec2_of(b);
+    let arc = ProfileArc {
+        center: c,
+        ccw: ccw,
+    };
+    store_number(arc.turn(p, q), out)
+}
+
+#[no_mangle]
+pub extern "C" fn jr_reversed(a: &[f64; 7], out: &mut [f64; 7]) -> u32
+    ensures number { λ r. ⌜ r ≡ numberOf (Arcs.reversedDue (arc (now (a .entry)))) ⌝ }
+    ensures out { λ _. ⌜ now (out .exit) ≡ after7 (now (out .entry)) (Arcs.reversedDue (arc (now (a .entry)))) ⌝ }
+{
+    let c = arc_of(a);
+    store_arc(c.reversed(), out)
+}
+
+#[no_mangle]
+pub extern "C" fn jr_sweep(a: &[f64; 7], from: &[f64; 3], to: &[f64; 3], out: &mut [f64; 1]) -> u32
+    ensures number { λ r. ⌜ r ≡ numberOf (Arcs.sweepDue (arc (now (a .entry))) (vec3 (now (from .entry))) (vec3 (now (to .entry)))) ⌝ }
+    ensures out { λ _. ⌜ now (out .exit) ≡ after1 (now (out .entry)) (Arcs.sweepDue (arc (now (a .entry))) (vec3 (now (from .entry))) (vec3 (now (to .entry)))) ⌝ }
+{
+    let c = arc_of(a);
+    let u = vec3_of(from);
+    let v = vec3_of(to);
+    store_number(c.sweep(u, v), out)
+}
+
+#[no_mangle]
+pub extern "C" fn jr_at(a: &[f64; 7], from: &[f64; 3], t: f64, out: &mut [f64; 3]) -> u32
+    ensures number { λ r. ⌜ r ≡ numberOf (Arcs.atDue (arc (now (a .entry))) (vec3 (now (from .entry))) t) ⌝ }
+    ensures out { λ _. ⌜ now (out .exit) ≡ after3 (now (out .entry)) (Arcs.atDue (arc (now (a .entry))) (vec3 (now (from .entry))) t) ⌝ }
+{
+    let c = arc_of(a);
+    let u = vec3_of(from);
+    store_vector(c.at(u, t), out)
+}

@@ -1,0 +1,56 @@
+// Motions.
+ghost use mathlib.Core.Path.{_≡_};
+ghost use Rattle.motions.specs.Motions as Motions;
+ghost use Rattle.exports.specs.Records.{vec3, rigid, numberOf, after3, after12};
+use crate::records::rigid_of;
+use crate::records::store_motion;
+use crate::records::store_vector;
+use crate::records::vec3_of;
+use motions::Rigid;
+
+#[no_mangle]
+pub extern "C" fn jr_rotation(axis: &[f64; 3], angle: f64, out: &mut [f64; 12]) -> u32
+    ensures number { λ r. ⌜ r ≡ numberOf (Motions.rotationDue (vec3 (now (axis .entry))) angle) ⌝ }
+    ensures out { λ _. ⌜ now (out .exit) ≡ after12 (now (out .entry)) (Motions.rotationDue (vec3 (now (axis .entry))) angle) ⌝ }
+{
+    let a = vec3_of(axis);
+    store_motion(Rigid::rotation(a, angle), out)
+}
+
+#[no_mangle]
+pub extern "C" fn jr_frame(
+    origin: &[f64; 3],
+    x: &[f64; 3],
+    y: &[f64; 3],
+    z: &[f64; 3],
+    out: &mut [f64; 12],
+) -> u32
+    ensures number { λ r. ⌜ r ≡ numberOf (Motions.frameDue (vec3 (now (origin .entry))) (vec3 (now (x .entry))) (vec3 (now (y .entry))) (vec3 (now (z .entry)))) ⌝ }
+    ensures out { λ _. ⌜ now (out .exit) ≡ after12 (now (out .entry)) (Motions.frameDue (vec3 (now (origin .entry))) (vec3 (now (x .entry))) (vec3 (now (y .entry))) (vec3 (now (z .entry)))) ⌝ }
+{
+    let o = vec3_of(origin);
+    let a = vec3_of(x);
+    let b = vec3_of(y);
+    let c = vec3_of(z);
+    store_motion(Rigid::frame(o, a, b, c), out)
+}
+
+#[no_mangle]
+pub extern "C" fn jr_apply(m: &[f64; 12], p: &[f64; 3], out: &mut [f64; 3]) -> u32
+    ensures number { λ r. ⌜ r ≡ numberOf (Motions.applyDue (rigid (now (m .entry))) (vec3 (now (p .entry)))) ⌝ }
+    ensures out { λ _. ⌜ now (out .exit) ≡ after3 (now (out .entry)) (Motions.applyDue (rigid (now (m .entry))) (vec3 (now (p .entry)))) ⌝ }
+{
+    let g = rigid_of(m);
+    let q = vec3_of(p);
+    store_vector(g.apply(q), out)
+}
+
+#[no_mangle]
+pub extern "C" fn jr_apply_vector(m: &[f64; 12], p: &[f64; 3], out: &mut [f64; 3]) -> u32
+    ensures number { λ r. ⌜ r ≡ numberOf (Motions.applyVectorDue (rigid (now (m .entry))) (vec3 (now (p .entry)))) ⌝ }
+    ensures out { λ _. ⌜ now (out .exit) ≡ after3 (now (out .entry)) (Motions.applyVectorDue (rigid (now (m .entry))) (vec3 (now (p .entry)))) ⌝ }
+{
+    let g = rigid_of(m);
+    let q = vec3_of(p);
+    store_vector(g.apply_vector(q), out)
+}

@@ -1,0 +1,70 @@
+// Square root, rounding to whole numbers, and the functions of libm.
+ghost use mathlib.Core.Path.{_≡_};
+ghost use lib.Ieee.{binary64};
+ghost use Rattle.checked.specs.Checked.{answered};
+ghost use Rattle.rounding.specs.Root as Root;
+ghost use Rattle.rounding.specs.Whole as Whole;
+ghost use Rattle.arctangent.specs.Arctangent as Arctangent;
+ghost use Rattle.circle.specs.Circle as Circle;
+ghost use Rattle.roots.specs.Roots as Roots;
+ghost use Rattle.exports.specs.Records.{numberOf, after1, after2};
+use crate::records::store_number;
+use crate::records::store_sines;
+
+#[no_mangle]
+pub extern "C" fn jr_sqrt(x: f64) -> f64
+    ensures { λ r. ⌜ r ≡ Root.sqrt binary64 x ⌝ }
+{
+    rounding::sqrt(x)
+}
+
+#[no_mangle]
+pub extern "C" fn jr_ceil(x: f64) -> f64
+    ensures { λ r. ⌜ r ≡ Whole.ceil binary64 x ⌝ }
+{
+    rounding::ceil(x)
+}
+
+#[no_mangle]
+pub extern "C" fn jr_round(x: f64) -> f64
+    ensures { λ r. ⌜ r ≡ Whole.«round-away» binary64 x ⌝ }
+{
+    rounding::round(x)
+}
+
+#[no_mangle]
+pub extern "C" fn jr_atan2(y: f64, x: f64) -> f64
+    ensures { λ r. ⌜ r ≡ Arctangent.atan2 y x ⌝ }
+{
+    arctangent::atan2(y, x)
+}
+
+#[no_mangle]
+pub extern "C" fn jr_acos(x: f64) -> f64
+    ensures { λ r. ⌜ r ≡ Roots.acos x ⌝ }
+{
+    roots::acos(x)
+}
+
+#[no_mangle]
+pub extern "C" fn jr_hypot(x: f64, y: f64) -> f64
+    ensures { λ r. ⌜ r ≡ Roots.hypot x y ⌝ }
+{
+    roots::hypot(x, y)
+}
+
+#[no_mangle]
+pub extern "C" fn jr_sin(x: f64, out: &mut [f64; 1]) -> u32
+    ensures number { λ r. ⌜ r ≡ numberOf (answered (Circle.sinC x)) ⌝ }
+    ensures out { λ _. ⌜ now (out .exit) ≡ after1 (now (out .entry)) (answered (Circle.sinC x)) ⌝ }
+{
+    store_number(checked::settle(circle::sin(x)), out)
+}
+
+#[no_mangle]
+pub extern "C" fn jr_sincos(x: f64, out: &mut [f64; 2]) -> u32
+    ensures number { λ r. ⌜ r ≡ numberOf (answered (Circle.sincosC x)) ⌝ }
+    ensures out { λ _. ⌜ now (out .exit) ≡ after2 (now (out .entry)) (answered (Circle.sincosC x)) ⌝ }
+{
+    store_sines(circle::sincos(x), out)
+}
