@@ -121,7 +121,7 @@ atan x =
 
 -- ---- atan2.rs
 
-abbrev PI : Float
+abbrev pub PI : Float
 PI = float 0x400921FB_54442D18  -- 3.1415926535897931160E+00
 
 abbrev PI-LO : Float

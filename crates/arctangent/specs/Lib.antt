@@ -1,2 +1,3 @@
 pub mod Arctangent
 pub mod Laws
+pub mod Values

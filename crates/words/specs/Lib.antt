@@ -1,2 +1,4 @@
 pub mod Words
 pub mod Laws
+pub mod Signs
+pub mod Special
