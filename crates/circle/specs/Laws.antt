@@ -1,13 +1,16 @@
--- Which angles are refused, and by which number. Assumes nothing.
+-- Which angles are refused, and by which number; sine and cosine of the zeros. Assumes nothing.
 use Prim.Native.Nat.{ℕ}
 use mathlib.Core.Path.{_≡_, refl, sym, ap, _∙_, subst}
 use mathlib.Core.Bool.{Bool, true, false, cond}
 use lib.Dec.{T}
-use lib.Ieee.{Float}
+use lib.Ieee.{Float, neg, le, toBits, ofBits}
 use Rattle.checked.specs.Refusals.{ANGLE-TOO-LARGE, NOT-FINITE}
 use Rattle.checked.specs.Checked.{first, nine, eight, isFinite, within}
 use Rattle.checked.specs.PatternLaws.{yes}
 use Rattle.checked.specs.Laws.{within-finite}
+use Rattle.words.specs.Words.{one}
+use Rattle.words.specs.Signs.{noughtOf}
+use Rattle.circle.specs.Circle.{sine, sines, sineOrZero, sinesOrZeros, sinC, sincosC}
 
 finite-is : (b : Bool) → T b → b ≡ true
 finite-is true h = refl
@@ -26,3 +29,15 @@ meets-eight x f h = simp (h, f)
 pub meets-nine : (x : Float) → isFinite x ≡ false → first (nine x) (eight x) ≡ NOT-FINITE
 unfolding nine eight first
 meets-nine x f = simp f
+
+-- ---- a zero is its own sine, and its cosine is 1 (ISO C, Annex F)
+
+pub sincos-nought : (s : Bool) → sincosC (noughtOf s) ≡ record { refusal = 0; value = record { sin = noughtOf s; cos = one } }
+unfolding first nine eight within isFinite sinesOrZeros sines le neg toBits ofBits
+sincos-nought true = refl
+sincos-nought false = refl
+
+pub sin-nought : (s : Bool) → sinC (noughtOf s) ≡ record { refusal = 0; value = noughtOf s }
+unfolding first nine eight within isFinite sineOrZero sine le neg toBits ofBits
+sin-nought true = refl
+sin-nought false = refl
