@@ -1,9 +1,10 @@
--- Where a list of box calls leaves the box: `Met` is the claim, `all-lists` shows it of every list, and `same-box` follows.
--- It is all over the edges of any kind: what is tried of an edge that is handed in, and its ends and extreme points as they are worked out.
+-- Where any list of box calls leaves the box: `Met` is the claim, `all-lists` shows it of every list, and `same-box` follows.
+-- It is stated of any kind of edge, given what is tried of an edge that is handed in (`handed`) and how its ends and extreme points are worked out
+-- (`points`). `boxCall` is the call, with which the contracts of the box calls in the code agree.
 use Prim.Native.Nat.{ℕ, zero, suc}
 use mathlib.Core.Path.{_≡_, refl, sym, _∙_, ap, ap₂, subst}
 use mathlib.Core.Logic.{⊎-elim}
-use mathlib.Core.Bool.{Bool, true, false, cond, not, _&&_}
+use mathlib.Core.Bool.{Bool, true, false, cond}
 use mathlib.Core.List.{List, [], _∷_, _++_, map, List·Memᴰ, List·Memᴰ·head, List·Memᴰ·tail, List·Memᴰ·cases-cons, List·Memᴰ·not-nil, List·Memᴰ·append-cases, Memᴰ·append-left, Memᴰ·append-right, Memᴰ·cast}
 use lib.Dec.{T}
 use lib.Ieee.{Float}
@@ -11,7 +12,7 @@ use Rattle.order.specs.Extremes.{Least, Greatest, Same, Within, one-least, one-
 use Rattle.vectors.specs.declared.Vec3.{Vec3}
 use Rattle.checked.specs.Checked.{Checked, Due, due, refused, settled}
 use Rattle.boxes.specs.Boxes.{Axis, at, widenedBy, free, empty, tried, passed, boxCall, Sound, after}
-use Rattle.boxes.specs.Laws.{NumbersAll, empty-free, finite-numbers, widened-append, widened-none, widened-low, widened-high, widened-free, on-free}
+use Rattle.boxes.specs.Laws.{NumbersAll, empty-free, finite-numbers, widened-append, widened-low, widened-high, widened-free, on-free}
 use Rattle.boxes.specs.declared.Bounds.{Bounds}
 
 -- ================ the claim
@@ -27,10 +28,11 @@ isDue (refused n) = false
 
 -- Edge: whatever a box call is handed, the box apart
 module _ {Edge : Type 0} (handed : Edge → Due Unit) (points : Edge → Checked (List Vec3)) where
+  -- a call with an edge
   abbrev pub call : Bounds → Edge → Due Bounds
   call b e = boxCall (handed e) (points e) b
 
-  -- an edge is accepted where its call on the empty box is due no refusal
+  -- an edge is accepted where its call on the empty box is due no refusal; the accepted ones of a list
   abbrev pub accepted : Edge → Bool
   accepted e = isDue (call empty e)
 
@@ -52,8 +54,10 @@ module _ {Edge : Type 0} (handed : Edge → Due Unit) (points : Edge → Checked
   pointsOf [] = []
   pointsOf (e ∷ es) = points e .value ++ pointsOf es
 
-  -- Each coordinate of the low corner is the least of the first low corner's and of those of the accepted edges' ends and extreme points, each
-  -- of the high corner the greatest; and each call is accepted, or refused with its number, as its edge is due on the empty box.
+  -- From the first box b, after calls with the edges es:
+  -- low: the low corner is the least of the first low corner and of the accepted edges' ends and extreme points, in each coordinate;
+  -- high: the high corner is the greatest of the first high corner and of these;
+  -- each: each call is accepted, or refused with its number, as its edge is due on the empty box.
   pub record Met (b : Bounds) (es : List Edge) : Type 0 where
     pub low : (k : Axis) → Least (at k (run b es .low)) (at k (b .low) ∷ map (at k) (pointsOf (acceptedOf es)))
     pub high : (k : Axis) → Greatest (at k (run b es .high)) (at k (b .high) ∷ map (at k) (pointsOf (acceptedOf es)))

@@ -1,5 +1,5 @@
 -- Laws of boxes that are widened by points, and of box calls on a box free of NaN.
-use Prim.Native.Nat.{ℕ, zero, suc}
+use Prim.Native.Nat.{ℕ}
 use mathlib.Core.Path.{_≡_, refl, sym, _∙_, ap, subst}
 use mathlib.Core.Logic.{⊎-elim}
 use mathlib.Core.Bool.{Bool, true, false, cond, not, _&&_}
@@ -11,13 +11,14 @@ use lib.Ieee.Bits.{is-true}
 use lib.Ieee.Fits.{and-i, and-l, and-r}
 use Rattle.order.specs.Order.{Number}
 use Rattle.order.specs.Least.{least, greatest}
+use Rattle.order.specs.Merging.{least-grouped, greatest-grouped, least-start, greatest-start}
 use Rattle.order.specs.Extremes.{Least, Greatest, fold, AllNumbers, lowest, highest}
 use Rattle.vectors.specs.declared.Vec3.{Vec3}
 use Rattle.vectors.specs.Vectors.{isFinite3, nines, within3}
 use Rattle.checked.specs.Refusals.{BAD-BOX-OR-SUMS, NOT-FINITE}
 use Rattle.checked.specs.Checked.{Checked, Due, due, refused, settled, isFinite, within, first, given, unless}
 use Rattle.checked.specs.Laws.{first-zero, first-none, within-finite}
-use Rattle.boxes.specs.Boxes.{Axis, X, Y, Z, at, lesser, greater, widened, widenedBy, numbers, free, empty, passed, tried, boxCall, _⧺_, AllFinite, Sound}
+use Rattle.boxes.specs.Boxes.{Axis, X, Y, Z, at, lesser, greater, widened, widenedBy, merged, numbers, free, empty, passed, tried, boxCall, _⧺_, AllFinite, Sound}
 use Rattle.boxes.specs.declared.Bounds.{Bounds}
 
 -- first the points of one list, then those of the other
@@ -34,6 +35,23 @@ widened-none b = refl
 pub widened-cons : (b : Bounds) (p : Vec3) (ps : List Vec3) → widenedBy b (p ∷ ps) ≡ widenedBy (widened b p) ps
 unfolding widenedBy
 widened-cons b p ps = refl
+
+-- ---- boxes of two: an edge's own box, which starts empty, merged into another is that other widened by the edge
+merged-empty : (b : Bounds) → merged b empty ≡ b
+unfolding merged lesser greater
+merged-empty b = simp (least-start, greatest-start)
+
+merged-point : (b c : Bounds) (p : Vec3) → merged b (widened c p) ≡ widened (merged b c) p
+unfolding merged widened lesser greater
+merged-point b c p = simp (least-grouped, greatest-grouped)
+
+pub merged-widened : (b c : Bounds) (ps : List Vec3) → merged b (widenedBy c ps) ≡ widenedBy (merged b c) ps
+unfolding widenedBy
+merged-widened b c [] = refl
+merged-widened b c (p ∷ ps) = merged-widened b (widened c p) ps ∙ ap (λ (d : Bounds). widenedBy d ps) (merged-point b c p)
+
+pub merged-own : (b : Bounds) (ps : List Vec3) → merged b (widenedBy empty ps) ≡ widenedBy b ps
+merged-own b ps = merged-widened b empty ps ∙ ap (λ (d : Bounds). widenedBy d ps) (merged-empty b)
 
 -- ---- a coordinate of the box is the least, or the greatest, of that coordinate's numbers
 pub low-at : (k : Axis) (b : Bounds) (ps : List Vec3) → at k (widenedBy b ps .low) ≡ fold least (at k (b .low)) (map (at k) ps)

@@ -1,7 +1,7 @@
 -- Values of the definitions, which antt computes: the zeros' signs, a NaN on either side, and the infinities from which a box starts.
 use mathlib.Core.Path.{_≡_, refl}
 use mathlib.Core.Bool.{true, false}
-use mathlib.Core.List.{List, [], _∷_}
+use mathlib.Core.List.{[], _∷_}
 use lib.IntN.{pos}
 use lib.Ieee.{Float, nan, inf, fin, lt, eq}
 use Rattle.order.specs.Least.{negative, least, greatest}

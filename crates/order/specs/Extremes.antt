@@ -6,7 +6,7 @@ use mathlib.Core.List.{List, [], _∷_, List·Memᴰ, List·Memᴰ·head, List·
 use lib.Dec.{T}
 use lib.Ieee.{Float, nan, lt, eq, le}
 use Rattle.order.specs.Order.{Number, lt-le, eq-le, eq-sym, not-lt-le, lt-not-le, le-refl-of, le-antisym, le-trans-of, holds, fails, neither}
-use Rattle.order.specs.Least.{negative, lower, upper, least, greatest}
+use Rattle.order.specs.Least.{negative, least, greatest}
 
 -- ================ the statement
 

@@ -1,14 +1,14 @@
--- When two floats that fit are the same data, what a zero is, and the two ways in which sums pick the sign of a zero. Assumes nothing.
+-- When two floats that fit are the same, what a zero is, and that sums pick the sign of a zero as the least and the greatest do.
 use mathlib.Core.Path.{_≡_, refl, sym, _∙_, ap, subst}
 use mathlib.Core.Logic.{_⊎_, inl, inr}
-use mathlib.Core.Bool.{Bool, true, false, not, _&&_, _||_, Bool·beq, cond}
-use Prim.Native.Nat.{ℕ, zero, suc, _+_, _*_, _/_, _-_, _^_, _<_, _≤_}
-use native.Mathlib.Nat.{mul-comm, mul-assoc, mul-right-comm, mul-div-mul-right, mul-pos, mul-one, one-mul, zero-mul}
+use mathlib.Core.Bool.{Bool, true, false, not, _||_, Bool·beq, cond}
+use Prim.Native.Nat.{ℕ, zero, suc, _+_, _*_, _/_, _-_, _^_, _<_}
+use native.Mathlib.Nat.{mul-comm, mul-right-comm, mul-div-mul-right, mul-pos, mul-one, one-mul, zero-mul}
 use native.Mathlib.Omega.{arith}
 use lib.IntN.{ℤ, pos, negsuc}
 use lib.Dec.{T, eqb, eqb→eq}
-use lib.Pow.{pow-pos, pow-lt}
-use lib.Ieee.{Float, nan, inf, fin, Format, binary64, prec, low, top, hid, up, down, size, level, lt, eq, neg, add, sub, fits, ofBits, toBits, isNan}
+use lib.Pow.{pow-lt}
+use lib.Ieee.{Float, nan, inf, fin, Format, binary64, prec, low, top, hid, up, down, size, lt, eq, neg, add, sub, fits, ofBits, toBits, isNan}
 use lib.Ieee.Fits.{up-pos, down-pos, and-i, and-l, and-r, eq→eqb}
 use lib.Ieee.Bits.{ofBits-toBits}
 use Rattle.order.specs.Least.{negative, lower, upper, least, greatest}
