@@ -2,3 +2,4 @@ pub mod Arcs
 pub mod Extremes
 pub mod Entries
 pub mod Laws
+pub mod Sound

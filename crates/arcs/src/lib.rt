@@ -6,6 +6,9 @@ ghost use Rattle.vectors.specs.Vectors.{within3};
 ghost use Rattle.vectors.specs.Entries.{vectorDue};
 ghost use Rattle.boxes.specs.Boxes.{widenedDue};
 ghost use Rattle.arcs.specs.Entries.{arcDue, arcWithin, endsWithin, reversedDue, sweepDue, atDue, extendDue};
+use boxes::Bounds;
+use boxes::Widened;
+use checked::BAD_BOX_OR_SUMS;
 use checked::Number;
 use checked::OUT_OF_RANGE;
 use checked::is_within;
@@ -13,6 +16,7 @@ use vectors::Vec3;
 use vectors::Vector;
 use vectors::is_within3;
 
+pub mod extremes;
 pub mod formula;
 
 // An arc counterclockwise about `axis`, a unit vector, around `center`.
@@ -99,6 +103,21 @@ impl Arc {
             vectors::settle(formula::at(self, from, t))
         } else {
             Vector::Refused(OUT_OF_RANGE)
+        }
+    }
+
+    // The box widened by the arc from one point to another: both ends, and the points extreme along an axis that lie on it.
+    pub fn extended(self, from: Vec3, to: Vec3, bounds: Bounds) -> Widened
+        ensures { λ r. ⌜ widenedDue r ≡ extendDue self from to bounds ⌝ }
+    {
+        if self.ends_within(from, to) {
+            if bounds.is_free() {
+                boxes::settle(extremes::extended(self, from, to, bounds))
+            } else {
+                Widened::Refused(BAD_BOX_OR_SUMS)
+            }
+        } else {
+            Widened::Refused(OUT_OF_RANGE)
         }
     }
 }

@@ -1,10 +1,8 @@
 use borrow.Author.Needs.{needs}
 use Rattle.arcs.specs.Arcs.{turnedC}
-use Rattle.checked.specs.Laws.{rules as checked-rules}
-use Rattle.vectors.specs.Laws.{rules as vectors-rules}
-use Rattle.angles.specs.Laws.{rules as angles-rules}
-use Rattle.directions.specs.Laws.{rules as directions-rules}
-use Rattle.boxes.specs.Laws.{rules as boxes-rules}
+use Rattle.checked.specs.Laws.{first-assoc, zero-first}
+use Rattle.arcs.specs.Laws.{turned-refusal}
+use mathlib.Core.Path.{sym, _∙_}
 use Rattle.arcs.proofs.formula.turned.Statement.{statement}
 use Rattle.arcs.proofs.formula.turned.Tie as tie
 
@@ -31,7 +29,7 @@ noted-requires c κs = search needs
 
 returns : tie.Need-returns
 unfolding turnedC
-returns c = (simp (c .noted .ensures, c .before .plus2 .ensures, c .before .before .times2 .ensures, c .before .before .before .cross .ensures, c .before .before .before .before .plus .ensures, c .before .before .before .before .before .times .ensures, c .before .before .before .before .before .before .before .sincos .ensures .0, c .before .before .before .before .before .before .before .sincos .ensures .1, checked-rules, vectors-rules, angles-rules, directions-rules, boxes-rules), simp (c .before .plus2 .ensures, c .before .before .times2 .ensures, c .before .before .before .cross .ensures, c .before .before .before .before .plus .ensures, c .before .before .before .before .before .times .ensures, c .before .before .before .before .before .before .before .sincos .ensures .1))
+returns c = ((simp (c .noted .ensures, c .before .plus2 .ensures, c .before .before .times2 .ensures, c .before .before .before .cross .ensures, c .before .before .before .before .plus .ensures, c .before .before .before .before .before .times .ensures, c .before .before .before .before .before .before .before .sincos .ensures .0, c .before .before .before .before .before .before .before .sincos .ensures .1, first-assoc, zero-first)) ∙ sym (turned-refusal (c .before .before .before .before .before .before .before .before .args .arc) (c .before .before .before .before .before .before .before .before .args .d) (c .before .before .before .before .before .before .before .before .args .t)), simp (c .before .plus2 .ensures, c .before .before .times2 .ensures, c .before .before .before .cross .ensures, c .before .before .before .before .plus .ensures, c .before .before .before .before .before .times .ensures, c .before .before .before .before .before .before .before .sincos .ensures .1))
 
 pub turned-spec : {M : Type 1} → statement M
 turned-spec =

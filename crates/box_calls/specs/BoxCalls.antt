@@ -1,0 +1,47 @@
+-- Where any list of box calls leaves the box. The contracts of the box calls equate their answers with `call`. Assumes nothing.
+use mathlib.Core.Path.{_≡_, refl}
+use mathlib.Core.List.{List}
+use lib.Dec.{T}
+use Rattle.checked.specs.Checked.{Checked, Due}
+use Rattle.vectors.specs.declared.Vec3.{Vec3}
+use Rattle.boxes.specs.declared.Bounds.{Bounds}
+use Rattle.boxes.specs.Boxes.{free, passed, Sound}
+use Rattle.boxes.specs.Demand3 as Demand3
+use Rattle.boxes.specs.Demand3.{Met, SameAccepted, SameBox, run}
+use Rattle.arcs.specs.declared.Arc.{Arc}
+use Rattle.arcs.specs.Extremes.{pointsC}
+use Rattle.arcs.specs.Entries as arcs
+use Rattle.arcs.specs.Sound.{points-sound}
+
+-- what a box call is handed, the box apart
+pub data Edge : Type 0 where
+  -- `Arc::extend_bounds`: an arc and its two ends
+  ArcEdge : Arc → Vec3 → Vec3 → Edge
+
+-- the tests of what was handed in
+abbrev pub handed : Edge → Due Unit
+handed (ArcEdge arc from to) = arcs.handed arc from to
+
+-- the ends and extreme points, as they are worked out
+abbrev pub points : Edge → Checked (List Vec3)
+points (ArcEdge arc from to) = pointsC arc from to
+
+-- a call on a box
+abbrev pub call : Bounds → Edge → Due Bounds
+call = Demand3.call handed points
+
+-- it is what the entry of that edge is due to answer
+pub arc-call : (b : Bounds) (arc : Arc) (from to : Vec3) → call b (ArcEdge arc from to) ≡ arcs.extendDue arc from to b
+unfolding arcs.extendDue
+arc-call b arc from to = refl
+
+sound : (e : Edge) → handed e ≡ passed → Sound (points e)
+sound (ArcEdge arc from to) h = points-sound arc from to
+
+-- every list of box calls, from every box free of NaN
+pub box-calls-met : (b : Bounds) → T (free b) → (es : List Edge) → Met handed points b es
+box-calls-met = Demand3.all-lists handed points sound
+
+-- the same accepted edges, in whatever order and however often, leave the same box
+pub same-box : (b : Bounds) → T (free b) → (es fs : List Edge) → SameAccepted handed points es fs → SameBox (run handed points b es) (run handed points b fs)
+same-box = Demand3.same-box handed points sound
