@@ -84,7 +84,7 @@ mod second {
             return 1;
         }
         let greatest = a.iter().fold(0.0, |m: f64, x| m.max(x.abs()));
-        out[0] = a.iter().position(|x| x.abs() == greatest).unwrap() as u32;
+        out[0] = a.iter().position(|x| x.abs() == greatest).unwrap() as u64;
         0
     }
 }
