@@ -11,6 +11,7 @@ use Rattle.vectors.specs.declared.Vec3.{Vec3}
 use Rattle.motions.specs.declared.Rigid.{Rigid}
 use Rattle.profiles.specs.declared.ProfileArc.{ProfileArc}
 use Rattle.arcs.specs.declared.Arc.{Arc}
+use Rattle.boxes.specs.declared.Bounds.{Bounds}
 
 -- ---- records as arrays
 abbrev pub vec2 : List Float → Vec2
@@ -37,6 +38,10 @@ rigid l = record {
   shift = vec3At l 9 10 11;
 }
 
+-- low corner, high corner
+abbrev pub bounds : List Float → Bounds
+bounds l = record { low = vec3At l 0 1 2; high = vec3At l 3 4 5 }
+
 -- ---- answers: the refusal's number, 0 where there is none
 unfoldable pub numberOf : {A : Type 0} → Due A → ℕ
 numberOf (due a) = 0
@@ -57,6 +62,10 @@ after2 l (refused n) = l
 unfoldable pub after3 : List Float → Due Vec3 → List Float
 after3 l (due v) = setVec3 l 0 1 2 v
 after3 l (refused n) = l
+
+unfoldable pub after6 : List Float → Due Bounds → List Float
+after6 l (due b) = setVec3 (setVec3 l 0 1 2 (b .low)) 3 4 5 (b .high)
+after6 l (refused n) = l
 
 unfoldable pub after7 : List Float → Due Arc → List Float
 after7 l (due a) = set (setVec3 (setVec3 l 0 1 2 (a .center)) 3 4 5 (a .axis)) 6 (a .radius)

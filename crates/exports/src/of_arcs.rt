@@ -3,14 +3,17 @@ ghost use mathlib.Core.Path.{_≡_};
 ghost use Rattle.directions.specs.Directions as Directions;
 ghost use Rattle.profiles.specs.Profiles as Profiles;
 ghost use Rattle.arcs.specs.Entries as Arcs;
-ghost use Rattle.exports.specs.Records.{vec2, vec3, arc, profileArc, numberOf, after1, after3, after7};
+ghost use Rattle.exports.specs.Records.{vec2, vec3, arc, bounds, profileArc, numberOf, after1, after3, after6, after7};
 use crate::records::arc_of;
 use crate::records::store_arc;
+use crate::records::store_bounds;
 use crate::records::store_number;
 use crate::records::store_vector;
 use crate::records::vec2_of;
 use crate::records::vec3_of;
+use boxes::Bounds;
 use profiles::ProfileArc;
+use vectors::Vec3;
 
 #[no_mangle]
 pub extern "C" fn jr_unit(v: &[f64; 3], out: &mut [f64; 3]) -> u32
@@ -70,4 +73,32 @@ pub extern "C" fn jr_at(a: &[f64; 7], from: &[f64; 3], t: f64, out: &mut [f64; 3
     let c = arc_of(a);
     let u = vec3_of(from);
     store_vector(c.at(u, t), out)
+}
+
+#[no_mangle]
+pub extern "C" fn jr_extend_bounds(
+    a: &[f64; 7],
+    from: &[f64; 3],
+    to: &[f64; 3],
+    b: &mut [f64; 6],
+) -> u32
+    ensures number { λ r. ⌜ r ≡ numberOf (Arcs.extendDue (arc (now (a .entry))) (vec3 (now (from .entry))) (vec3 (now (to .entry))) (bounds (now (b .entry)))) ⌝ }
+    ensures corners { λ _. ⌜ now (b .exit) ≡ after6 (now (b .entry)) (Arcs.extendDue (arc (now (a .entry))) (vec3 (now (from .entry))) (vec3 (now (to .entry))) (bounds (now (b .entry)))) ⌝ }
+{
+    let c = arc_of(a);
+    let u = vec3_of(from);
+    let v = vec3_of(to);
+    let old = Bounds {
+        low: Vec3 {
+            x: b[0],
+            y: b[1],
+            z: b[2],
+        },
+        high: Vec3 {
+            x: b[3],
+            y: b[4],
+            z: b[5],
+        },
+    };
+    store_bounds(c.extended(u, v, old), b)
 }

@@ -4,9 +4,11 @@ ghost use Rattle.checked.specs.Checked.{numberDue, settled};
 ghost use Rattle.vectors.specs.Entries.{vectorDue, indexDue};
 ghost use Rattle.motions.specs.Motions.{motionDue};
 ghost use Rattle.arcs.specs.Entries.{arcDue};
-ghost use Rattle.exports.specs.Records.{vec2, vec3, rigid, arc, numberOf, after1, after2, after3, after7, after12, afterIndex};
+ghost use Rattle.boxes.specs.Boxes.{widenedDue};
+ghost use Rattle.exports.specs.Records.{vec2, vec3, rigid, arc, numberOf, after1, after2, after3, after6, after7, after12, afterIndex};
 use arcs::Arc;
 use arcs::ArcAnswer;
+use boxes::Widened;
 use checked::Number;
 use circle::CheckedSines;
 use motions::Motion;
@@ -175,4 +177,22 @@ pub fn store_sines(a: CheckedSines, out: &mut [f64; 2]) -> u32
         return 0;
     }
     r as u32
+}
+
+pub fn store_bounds(w: Widened, out: &mut [f64; 6]) -> u32
+    ensures number { λ r. ⌜ r ≡ numberOf (widenedDue w) ⌝ }
+    ensures out { λ _. ⌜ now (out .exit) ≡ after6 (now (out .entry)) (widenedDue w) ⌝ }
+{
+    match w {
+        Widened::Box(b) => {
+            out[0] = b.low.x;
+            out[1] = b.low.y;
+            out[2] = b.low.z;
+            out[3] = b.high.x;
+            out[4] = b.high.y;
+            out[5] = b.high.z;
+            0
+        }
+        Widened::Refused(r) => r as u32,
+    }
 }
