@@ -1,0 +1,36 @@
+use borrow.Author.Needs.{needs}
+use Rattle.chords.specs.Chords.{countC}
+use Rattle.checked.specs.Laws.{rules as checked-rules}
+use Rattle.vectors.specs.Laws.{rules as vectors-rules}
+use Rattle.chords.proofs.formula.count.Statement.{statement}
+use Rattle.chords.proofs.formula.count.Tie as tie
+
+ceil-requires : tie.Need-ceil-requires
+ceil-requires c κs = search needs
+
+greatest-requires : tie.Need-greatest-requires
+greatest-requires c κs = search needs
+
+limited-requires : tie.Need-limited-requires
+limited-requires c κs = search needs
+
+note-requires : tie.Need-note-requires
+note-requires c κs = search needs
+
+earlier-requires : tie.Need-earlier-requires
+earlier-requires c κs = search needs
+
+returns : tie.Need-returns
+unfolding countC
+returns c = (simp (c .earlier .ensures, c .before .note .ensures, c .before .before .limited .ensures .0, c .before .before .limited .ensures .1, c .before .before .before .greatest .ensures, c .before .before .before .before .ceil .ensures, checked-rules, vectors-rules), simp (c .before .before .limited .ensures .1, c .before .before .before .greatest .ensures, c .before .before .before .before .ceil .ensures))
+
+pub count-spec : {M : Type 1} → statement M
+count-spec =
+    tie.close
+    (tie.spec
+    ceil-requires
+    greatest-requires
+    limited-requires
+    note-requires
+    earlier-requires
+    returns)
