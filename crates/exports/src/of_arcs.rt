@@ -2,6 +2,7 @@
 ghost use mathlib.Core.Path.{_≡_};
 ghost use Rattle.directions.specs.Directions as Directions;
 ghost use Rattle.profiles.specs.Profiles as Profiles;
+ghost use Rattle.chords.specs.Chords as Chords;
 ghost use Rattle.arcs.specs.Entries as Arcs;
 ghost use Rattle.exports.specs.Records.{vec2, vec3, arc, bounds, profileArc, numberOf, after1, after3, after6, after7};
 use crate::records::arc_of;
@@ -101,4 +102,12 @@ pub extern "C" fn jr_extend_bounds(
         },
     };
     store_bounds(c.extended(u, v, old), b)
+}
+
+#[no_mangle]
+pub extern "C" fn jr_per_turn(radius: f64, chord: f64, out: &mut [f64; 1]) -> u32
+    ensures number { λ r. ⌜ r ≡ numberOf (Chords.perTurnDue radius chord) ⌝ }
+    ensures out { λ _. ⌜ now (out .exit) ≡ after1 (now (out .entry)) (Chords.perTurnDue radius chord) ⌝ }
+{
+    store_number(chords::per_turn(radius, chord), out)
 }

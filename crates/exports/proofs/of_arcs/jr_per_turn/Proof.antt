@@ -1,0 +1,15 @@
+use borrow.Author.Needs.{needs}
+use Rattle.exports.proofs.of_arcs.jr_per_turn.Statement.{statement}
+use Rattle.exports.proofs.of_arcs.jr_per_turn.Tie as tie
+
+per-turn-requires : tie.Need-per-turn-requires
+per-turn-requires c κs = search needs
+
+store-number-requires : tie.Need-store-number-requires
+store-number-requires c κs = search needs
+
+returns : tie.Need-returns
+returns c = (simp (c .store-number .ensures .0, c .before .before .per-turn .ensures), simp (c .store-number .ensures .1, c .before .before .per-turn .ensures))
+
+pub jr-per-turn-spec : {M : Type 1} → statement M
+jr-per-turn-spec = tie.close (tie.spec per-turn-requires store-number-requires returns)
