@@ -73,25 +73,31 @@ AT10 = float 0x3F90AD3A_E322DA11  -- 1.62858201153657823623e-02
 abbrev pub atanHuge : Float → Float
 atanHuge x = if isNan x then x else signed (sign x) (ATANHI3 +ᶠ float 0x03800000)
 
--- The new x with ATANHI and ATANLO of its id: from 7/16, from 11/16, from 19/16, from 39/16 up
+-- the new x, with ATANHI and ATANLO of its id: id 0, from 7/16 to 11/16
 abbrev atHalf : Float → Reduced
 atHalf x = record { x = (two *ᶠ x -ᶠ one) /ᶠ (two +ᶠ x); high = ATANHI0; low = ATANLO0 }
 
+-- id 1, to 19/16
 abbrev atOne : Float → Reduced
 atOne x = record { x = (x -ᶠ one) /ᶠ (x +ᶠ one); high = ATANHI1; low = ATANLO1 }
 
+-- id 2, to 39/16
 abbrev atThreeHalves : Float → Reduced
 atThreeHalves x = record { x = (x -ᶠ threeHalves) /ᶠ (one +ᶠ threeHalves *ᶠ x); high = ATANHI2; low = ATANLO2 }
 
+-- id 3, to 2^66
 abbrev atInfinity : Float → Reduced
 atInfinity x = record { x = neg one /ᶠ x; high = ATANHI3; low = ATANLO3 }
 
+-- below 19/16
 abbrev reducedNear : ℕ → Float → Reduced
 reducedNear ix x = if ltb ix 0x3fe60000 then atHalf x else atOne x
 
+-- from 19/16 up
 abbrev reducedFar : ℕ → Float → Reduced
 reducedFar ix x = if ltb ix 0x40038000 then atThreeHalves x else atInfinity x
 
+-- by the id of |x|, which the high word ix tells
 unfoldable pub reduced : ℕ → Float → Reduced
 reduced ix x = if ltb ix 0x3ff30000 then reducedNear ix x else reducedFar ix x
 
@@ -112,6 +118,7 @@ atanSmall ix x = if ltb ix 0x3e400000 then x else x -ᶠ series x
 abbrev pub folded : Reduced → Float
 folded r = r .high -ᶠ (series (r .x) -ᶠ r .low -ᶠ r .x)
 
+-- the arctangent of x
 unfoldable pub atan : Float → Float
 atan x =
     let ix = high-word x in
@@ -121,12 +128,14 @@ atan x =
 
 -- ---- atan2.rs
 
+-- π, and what it lacks of the true one
 abbrev pub PI : Float
 PI = float 0x400921FB_54442D18  -- 3.1415926535897931160E+00
 
 abbrev PI-LO : Float
 PI-LO = float 0x3CA1A626_33145C07  -- 1.2246467991473531772E-16
 
+-- x is 1
 unfoldable pub isOne : Float → Bool
 isOne x = eqb (bits x) 0x3ff00000_00000000
 
@@ -138,30 +147,35 @@ atZeroY m y = choose m y y PI (neg PI)
 abbrev pub quarterTurn : ℕ → Float
 quarterTurn m = if eqb (m % 2) 0 then PI /ᶠ two else neg PI /ᶠ two
 
--- x is infinite, and y is too or is not
+-- x and y are infinite
 abbrev pub bothInfinite : ℕ → Float
 bothInfinite m = choose m (PI /ᶠ four) (neg PI /ᶠ four) (three *ᶠ PI /ᶠ four) (neg three *ᶠ PI /ᶠ four)
 
+-- only x is infinite
 abbrev pub infiniteX : ℕ → Float
 infiniteX m = choose m zero (neg zero) PI (neg PI)
 
+-- x is infinite
 abbrev pub atInfiniteX : ℕ → ℕ → Float
 atInfiniteX m iy = if eqb iy 0x7ff00000 then bothInfinite m else infiniteX m
 
--- z, and by m the angle that it stands for. The sums of the words do not wrap: both are below 2^31.
+-- x is below 0, and y/x below 2^-64 in magnitude. The sums of words do not wrap, here and in `tooSteep`: a word is below 2^31.
 abbrev tooFlat : Float → Float → Bool
 tooFlat y x = eqb (sign x) 1 && ltb (high-word y + 64 * 2 ^ 20) (high-word x)
 
+-- z: the arctangent of |y/x|
 unfoldable pub ratioAngle : Float → Float → Float
 ratioAngle y x = if tooFlat y x then zero else atan (fabs (y /ᶠ x))
 
+-- the angle that z stands for, by the signs in m
 abbrev pub inQuadrant : ℕ → Float → Float
 inQuadrant m z = choose m z (neg z) (PI -ᶠ (z -ᶠ PI-LO)) ((z -ᶠ PI-LO) -ᶠ PI)
 
+-- y/x is above 2^64 in magnitude, or y is infinite
 abbrev tooSteep : ℕ → ℕ → Bool
 tooSteep iy ix = ltb (ix + 64 * 2 ^ 20) iy || eqb iy 0x7ff00000
 
--- neither is a NaN
+-- the angle of the point (x, y), where neither is a NaN; m is twice the sign of x, and the sign of y
 unfoldable pub angle : Float → Float → Float
 angle y x =
     let ix = high-word x in
@@ -174,5 +188,6 @@ angle y x =
     else if tooSteep iy ix then quarterTurn m
     else inQuadrant m (ratioAngle y x)
 
+-- the angle of the point (x, y)
 unfoldable pub atan2 : Float → Float → Float
 atan2 y x = if isNan x || isNan y then x +ᶠ y else angle y x

@@ -38,7 +38,7 @@ sineSeries z =
     let w = z *ᶠ z in
     S2 +ᶠ z *ᶠ (S3 +ᶠ z *ᶠ S4) +ᶠ z *ᶠ w *ᶠ (S5 +ᶠ z *ᶠ S6)
 
--- iy is 0
+-- the sine of x: iy is 0
 abbrev pub kSin0 : Float → Float
 kSin0 x =
     let z = x *ᶠ x in
@@ -46,7 +46,7 @@ kSin0 x =
     let v = z *ᶠ x in
     x +ᶠ v *ᶠ (S1 +ᶠ z *ᶠ r)
 
--- iy is 1
+-- the sine of x + y: iy is 1
 abbrev pub kSin : Float → Float → Float
 kSin x y =
     let z = x *ᶠ x in
@@ -74,6 +74,7 @@ C5 = float 0x3E21EE9E_BDB4B1C4  -- 2.08757232129817482790e-09
 abbrev C6 : Float
 C6 = float 0xBDA8FAE9_BE8838D4  -- -1.13596475577881948265e-11
 
+-- the cosine of x + y
 abbrev pub kCos : Float → Float → Float
 kCos x y =
     let z = x *ᶠ x in
@@ -89,9 +90,11 @@ kCos x y =
 abbrev pub TO-INT : Float
 TO-INT = float 0x43380000_00000000  -- 6755399441055744.0
 
+-- 2/π
 abbrev pub INV-PIO2 : Float
 INV-PIO2 = float 0x3FE45F30_6DC9C883  -- 6.36619772367581382433e-01
 
+-- π/2 in three parts of 33 bits, and after each what is then left
 abbrev PIO2-1 : Float
 PIO2-1 = float 0x3FF921FB_54400000  -- 1.57079632673412561417e+00
 
@@ -121,23 +124,26 @@ parted q r w =
     let y0 = r -ᶠ w in
     record { quarter = q; y0 = y0; y1 = (r -ᶠ y0) -ᶠ w }
 
--- `medium`. ex - ey is 0 here where ex is the smaller: either way no further round is made.
+-- x in quarter turns, 1.5 times 2^52 more: its fraction is rounded off
 abbrev pub tmp : Float → Float
 tmp x = x *ᶠ INV-PIO2 +ᶠ TO-INT
 
--- f_n, and of it n: an i32 has 31 bits and a sign
+-- f_n: the number of quarter turns
 abbrev pub f-n : Float → Float
 f-n x = tmp x -ᶠ TO-INT
 
+-- n: an i32 has 31 bits and a sign
 abbrev pub turns : Float → ℕ
 turns x = quarter (toSigned 31 (f-n x))
 
+-- the third round of `medium`
 abbrev pub thirdRound : ℕ → Float → Float → Rest
 thirdRound q f-n t =
     let w = f-n *ᶠ PIO2-3 in
     let r = t -ᶠ w in
     parted q r (f-n *ᶠ PIO2-3T -ᶠ ((t -ᶠ r) -ᶠ w))
 
+-- the second round, and whether a third is due; ex - ey is 0 here where ex is the smaller, and then none is due either way
 unfoldable pub secondRound : ℕ → ℕ → Float → Float → Rest
 secondRound ex q f-n t =
     let w = f-n *ᶠ PIO2-2 in
@@ -145,6 +151,7 @@ secondRound ex q f-n t =
     let w′ = f-n *ᶠ PIO2-2T -ᶠ ((t -ᶠ r) -ᶠ w) in
     if ltb 49 (ex - exponent (r -ᶠ w′)) then thirdRound q f-n r else parted q r w′
 
+-- the first round, and whether a second is due
 unfoldable pub medium : Float → ℕ → Rest
 medium x ix =
     let ex = ix / 2 ^ 20 in
@@ -152,44 +159,48 @@ medium x ix =
     let w = f-n x *ᶠ PIO2-1T in
     if ltb 16 (ex - exponent (r -ᶠ w)) then secondRound ex (turns x) (f-n x) r else parted (turns x) r w
 
--- p + t are some quarter turns: taken off an x above 0, added to an x below it
+-- p + t, which are some quarter turns, taken off x
 abbrev pub takenOff : ℕ → Float → Float → Float → Rest
 takenOff q x p t =
     let z = x -ᶠ p in
     let y0 = z -ᶠ t in
     record { quarter = q; y0 = y0; y1 = (z -ᶠ y0) -ᶠ t }
 
+-- added to it
 abbrev pub added : ℕ → Float → Float → Float → Rest
 added q x p t =
     let z = x +ᶠ p in
     let y0 = z +ᶠ t in
     record { quarter = q; y0 = y0; y1 = (z -ᶠ y0) +ᶠ t }
 
--- with n for an x above 0, and its negative for an x below it
+-- taken off an x above 0, of n quarter turns; added to one below it, of n′
 abbrev pub oneRound : ℤ → ℤ → Float → Float → Float → Rest
 oneRound n n′ x p t = if eqb (sign x) 0 then takenOff (quarter n) x p t else added (quarter n′) x p t
 
--- up to 5π/4, 7π/4 and 9π/4, or nearly
+-- up to 5π/4, or nearly
 unfoldable pub toFive : Float → ℕ → Rest
 toFive x ix =
     if eqb (ix % 2 ^ 20) 0x921fb then medium x ix
     else if leb ix 0x4002d97c then oneRound (pos 1) (negsuc 0) x PIO2-1 PIO2-1T
     else oneRound (pos 2) (negsuc 1) x (two *ᶠ PIO2-1) (two *ᶠ PIO2-1T)
 
+-- from there to 7π/4
 abbrev toSeven : Float → ℕ → Rest
 toSeven x ix =
     if eqb ix 0x4012d97c then medium x ix
     else oneRound (pos 3) (negsuc 2) x (three *ᶠ PIO2-1) (three *ᶠ PIO2-1T)
 
+-- from there to 9π/4
 abbrev fromSeven : Float → ℕ → Rest
 fromSeven x ix =
     if eqb ix 0x401921fb then medium x ix
     else oneRound (pos 4) (negsuc 3) x (four *ᶠ PIO2-1) (four *ᶠ PIO2-1T)
 
+-- from 5π/4 to 9π/4
 unfoldable pub toNine : Float → ℕ → Rest
 toNine x ix = if leb ix 0x4015fdbc then toSeven x ix else fromSeven x ix
 
--- ix is below 0x413921fb, where libm's case of large angles begins
+-- what is left of x, which is above π/4 in magnitude; ix is below 0x413921fb, where libm's case of large angles begins
 unfoldable pub remPio2 : Float → Rest
 remPio2 x =
     let ix = high-word x in
@@ -199,17 +210,18 @@ remPio2 x =
 
 -- ---- sin.rs
 
--- below 2^-26 the angle itself
+-- up to π/4, or nearly; below 2^-26 the angle itself
 abbrev pub smallSine : ℕ → Float → Float
 smallSine ix x = if ltb ix 0x3e500000 then x else kSin0 x
 
+-- by the quarter
 unfoldable pub turnedSine : Rest → Float
 turnedSine r =
     let s = kSin (r .y0) (r .y1) in
     let c = kCos (r .y0) (r .y1) in
     choose (r .quarter) s c (neg s) (neg c)
 
--- the sine of an angle that is due; the first case is up to π/4, or nearly
+-- the sine of an angle that is due
 unfoldable pub sine : Float → Float
 sine x =
     let ix = high-word x in
@@ -217,12 +229,13 @@ sine x =
 
 -- ---- sincos.rs
 
--- below 2^-27 times √2 the angle itself, and 1
+-- up to π/4, or nearly; below 2^-27 times √2 the angle itself, and 1
 abbrev pub smallSines : ℕ → Float → Sines
 smallSines ix x =
     if ltb ix 0x3e46a09e then record { sin = x; cos = one }
     else record { sin = kSin0 x; cos = kCos x zero }
 
+-- by the quarter
 unfoldable pub turnedSines : Rest → Sines
 turnedSines r =
     let s = kSin (r .y0) (r .y1) in
@@ -235,16 +248,20 @@ sines x =
     let ix = high-word x in
     if leb ix 0x3fe921fb then smallSines ix x else turnedSines (remPio2 x)
 
--- ---- of every angle, with the refusal that it meets; where it meets one the numbers are 0
+-- ---- of every angle, with the refusal that it meets
 
+-- the sine, or 0
 unfoldable pub sineOrZero : Float → Float
 sineOrZero x = if within x then sine x else zero
 
+-- the sine and the cosine, or zeros
 unfoldable pub sinesOrZeros : Float → Sines
 sinesOrZeros x = if within x then sines x else record { sin = zero; cos = zero }
 
+-- the sine, tried: 9 where the angle is not finite, else 8 where it is too large
 abbrev pub sinC : Float → Checked Float
 sinC x = record { refusal = first (nine x) (eight x); value = sineOrZero x }
 
+-- the sine and the cosine, tried in the same way
 abbrev pub sincosC : Float → Checked Sines
 sincosC x = record { refusal = first (nine x) (eight x); value = sinesOrZeros x }

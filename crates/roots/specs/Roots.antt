@@ -9,17 +9,20 @@ use Rattle.rounding.specs.Root as Root
 use Rattle.words.specs.Words.{zero, half, one, two, _+ᶠ_, _-ᶠ_, _*ᶠ_, _/ᶠ_, if_then_else_, float, size, sign}
 use Rattle.roots.specs.declared.Square.{Square}
 
+-- the square root
 abbrev sqrt : Float → Float
 sqrt x = Root.sqrt binary64 x
 
 -- ---- acos.rs
 
+-- π/2 in two parts
 abbrev PIO2-HI : Float
 PIO2-HI = float 0x3FF921FB_54442D18  -- 1.57079632679489655800e+00
 
 abbrev PIO2-LO : Float
 PIO2-LO = float 0x3C91A626_33145C07  -- 6.12323399573676603587e-17
 
+-- the coefficients of the ratio
 abbrev PS0 : Float
 PS0 = float 0x3FC55555_55555555  -- 1.66666666666666657415e-01
 
@@ -54,21 +57,22 @@ QS4 = float 0x3FB3B8C5_B12E9282  -- 7.70381505559019352791e-02
 abbrev tiny : Float
 tiny = float 0x38700000_00000000
 
--- r
+-- the ratio r of two polynomials
 abbrev pub ratio : Float → Float
 ratio z =
     let p = z *ᶠ (PS0 +ᶠ z *ᶠ (PS1 +ᶠ z *ᶠ (PS2 +ᶠ z *ᶠ (PS3 +ᶠ z *ᶠ (PS4 +ᶠ z *ᶠ PS5))))) in
     let q = one +ᶠ z *ᶠ (QS1 +ᶠ z *ᶠ (QS2 +ᶠ z *ᶠ (QS3 +ᶠ z *ᶠ QS4))) in
     p /ᶠ q
 
--- 1 or more in magnitude, or a NaN: at 1 and at -1 the angle, else a NaN
+-- at 1 and at -1
 abbrev atOne : Float → Float
 atOne x = if eqb (sign x) 0 then zero else two *ᶠ PIO2-HI +ᶠ tiny
 
+-- 1 or more in magnitude, or a NaN: beyond 1 a NaN
 unfoldable pub acosFar : Float → Float
 acosFar x = if eqb (size x) 0x3ff00000_00000000 then atOne x else zero /ᶠ (x -ᶠ x)
 
--- below 1/2 in magnitude
+-- below 1/2 in magnitude; up to 2^-57 a right angle
 unfoldable pub acosNear : ℕ → Float → Float
 acosNear ix x =
     if leb ix 0x3c600000 then PIO2-HI +ᶠ tiny
@@ -92,6 +96,7 @@ acosAbove x =
     let w = ratio z *ᶠ s +ᶠ c in
     two *ᶠ (df +ᶠ w)
 
+-- the angle whose cosine is x
 unfoldable pub acos : Float → Float
 acos x =
     let ix = high-word x in
@@ -122,10 +127,11 @@ sq x =
     let hi = x *ᶠ x in
     record { hi = hi; lo = xh *ᶠ xh -ᶠ hi +ᶠ two *ᶠ xh *ᶠ xl +ᶠ xl *ᶠ xl }
 
+-- the hypotenuse of x and y, times z
 abbrev pub scaled : Float → Float → Float → Float
 scaled z x y = z *ᶠ sqrt (sq y .lo +ᶠ sq x .lo +ᶠ sq y .hi +ᶠ sq x .hi)
 
--- of two patterns without their signs, the first not the smaller
+-- the hypotenuse of the numbers of two patterns without signs, the first not the smaller
 unfoldable pub hypotOrdered : ℕ → ℕ → Float
 hypotOrdered uxi uyi =
     let ex = uxi / 2 ^ 52 in
@@ -139,12 +145,14 @@ hypotOrdered uxi uyi =
     else if ltb ey (0x3ff - 450) then scaled x1p-700 (x *ᶠ x1p700) (y *ᶠ x1p700)
     else scaled one x y
 
--- the greater and the lesser of two patterns
+-- the greater of two patterns
 unfoldable pub greater : ℕ → ℕ → ℕ
 greater p q = if ltb p q then q else p
 
+-- the lesser of two patterns
 unfoldable pub lesser : ℕ → ℕ → ℕ
 lesser p q = if ltb p q then p else q
 
+-- the hypotenuse of the sides x and y
 unfoldable pub hypot : Float → Float → Float
 hypot x y = hypotOrdered (greater (size x) (size y)) (lesser (size x) (size y))

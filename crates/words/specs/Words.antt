@@ -7,6 +7,7 @@ use Rattle.checked.specs.Patterns.{bits}
 
 infixl 6 _+ᶠ_ _-ᶠ_
 infixl 7 _*ᶠ_ _/ᶠ_
+-- the sum, the difference, the product and the quotient
 abbrev pub _+ᶠ_ : Float → Float → Float
 _+ᶠ_ x y = add binary64 x y
 
@@ -20,6 +21,7 @@ abbrev pub _/ᶠ_ : Float → Float → Float
 _/ᶠ_ x y = div binary64 x y
 
 infixr 1 if_then_else_
+-- a choice by a test
 abbrev pub if_then_else_ : {A : Type 0} → Bool → A → A → A
 if_then_else_ b x y = cond b x y
 
