@@ -1,0 +1,54 @@
+-- `edge_file::Reading::first_of` meets its contract. Assumes nothing.
+use mathlib.Core.Path.{sym, _∙_, ap}
+use Rattle.edge_file.specs.Steps.{recordOn}
+use borrow.Author.Needs.{needs}
+use Rattle.edge_file.proofs.Reading.first_of.Statement.{statement}
+use Rattle.edge_file.proofs.Reading.first_of.Tie as tie
+
+record-of-requires : tie.Need-record-of-requires
+record-of-requires c κs = search needs
+
+enum-known-e : tie.Need-enum-known-e
+enum-known-e c = search needs
+
+edge-requires : tie.Need-edge-requires
+edge-requires c κs = search needs
+
+enum-told : tie.Need-enum-told
+enum-told c = search needs
+
+enum-told-2 : tie.Need-enum-told-2
+enum-told-2 c = search needs
+
+stopped-requires : tie.Need-stopped-requires
+stopped-requires c κs = search needs
+
+returns : tie.Need-returns
+returns c =
+    let x = c .before .before .before .before in
+    let a = x .before .before .before .args in
+    c .edge .ensures ∙ ap (recordOn (a .self)) (sym (c .before .before .e .given .1) ∙ x .record-of .ensures)
+
+returns-2 : tie.Need-returns-2
+returns-2 c =
+    let x = c .before .before in
+    ap (recordOn (x .before .before .before .args .self)) (sym (c .enum-told .given .1) ∙ x .record-of .ensures)
+
+returns-3 : tie.Need-returns-3
+returns-3 c =
+    let x = c .before .before .before in
+    c .stopped .ensures ∙ ap (recordOn (x .before .before .before .args .self)) (sym (c .before .enum-told2 .given .1) ∙ x .record-of .ensures)
+
+pub first-of-spec : {M : Type 1} → statement M
+first-of-spec =
+    tie.close
+    (tie.spec
+    record-of-requires
+    enum-known-e
+    edge-requires
+    enum-told
+    enum-told-2
+    stopped-requires
+    returns
+    returns-2
+    returns-3)

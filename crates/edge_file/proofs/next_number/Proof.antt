@@ -1,0 +1,21 @@
+-- `edge_file::next_number` meets its contract. Assumes nothing.
+use native.Mathlib.Omega.{arith}
+use borrow.Author.Needs.{needs}
+use Rattle.edge_file.specs.EdgeFile.{next}
+use borrow.Author.Tests.{lt-ltb, le-ltb, le-leb, lt-leb}
+use Rattle.edge_file.proofs.next_number.Statement.{statement}
+use Rattle.edge_file.proofs.next_number.Tie as tie
+
+add-result : tie.Need-add-result
+add-result c = search needs
+
+returns : tie.Need-returns
+unfolding next
+returns c = omega arith
+
+returns-2 : tie.Need-returns-2
+unfolding next
+returns-2 c = omega arith
+
+pub next-number-spec : {M : Type 1} → statement M
+next-number-spec = tie.close (tie.spec add-result returns returns-2)

@@ -1,0 +1,4 @@
+pub mod EdgeFile
+pub mod Steps
+pub mod Cutting
+pub mod Examples

@@ -1,0 +1,46 @@
+-- `edge_records::kind_of` meets its contract. Assumes nothing.
+use mathlib.Core.Path.{_∙_, ap}
+use native.Mathlib.Omega.{arith}
+use Rattle.edge_records.proofs.Heads.{short-head, short-body, whole-body}
+use borrow.Author.Needs.{needs}
+use Rattle.edge_records.specs.Records.{cut}
+use Rattle.edge_records.proofs.kind_of.Statement.{statement}
+use Rattle.edge_records.proofs.kind_of.Tie as tie
+
+returns : tie.Need-returns
+returns c = short-head (c .before .before .args .bytes .now) (c .if1 .taken)
+
+shared-slice-read-head-of : tie.Need-shared-slice-read-head-of
+shared-slice-read-head-of c = search needs
+
+shared-slice-read-head-of-2 : tie.Need-shared-slice-read-head-of-2
+shared-slice-read-head-of-2 c = search needs
+
+shared-slice-read-head-of-3 : tie.Need-shared-slice-read-head-of-3
+shared-slice-read-head-of-3 c = search needs
+
+head-of-requires : tie.Need-head-of-requires
+head-of-requires c κs = search needs
+
+cut-requires : tie.Need-cut-requires
+cut-requires c κs = search needs
+
+returns-2 : tie.Need-returns-2
+returns-2 c = let s = c .before .before .before .before .before .before .before .before .args .bytes .now in
+    c .cut .ensures ∙ ap cut (c .before .before .head-of .ensures) ∙ short-body s (omega arith) (c .before .if2 .taken)
+
+returns-3 : tie.Need-returns-3
+returns-3 c = c .before .head-of .ensures ∙ whole-body (c .before .before .before .before .before .before .before .args .bytes .now) (c .if2 .left)
+
+pub kind-of-spec : {M : Type 1} → statement M
+kind-of-spec =
+    tie.close
+    (tie.spec
+    returns
+    shared-slice-read-head-of
+    shared-slice-read-head-of-2
+    shared-slice-read-head-of-3
+    head-of-requires
+    cut-requires
+    returns-2
+    returns-3)

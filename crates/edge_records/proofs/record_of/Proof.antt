@@ -1,0 +1,81 @@
+-- `edge_records::record_of` meets its contract. Assumes nothing.
+use mathlib.Core.Path.{sym, _∙_, ap}
+use native.Mathlib.Omega.{arith}
+use lib.ListN.{drop}
+use Rattle.edge_records.specs.declared.Record.the-variants as first
+use Rattle.edge_records.specs.Laws.{arc-long}
+use Rattle.edge_records.proofs.Heads.{after-head}
+use borrow.Author.Needs.{needs}
+use Rattle.edge_records.specs.Records.{edgeOf, ofKind, recordOf}
+use Rattle.edge_records.proofs.record_of.Statement.{statement}
+use Rattle.edge_records.proofs.record_of.Tie as tie
+
+kind-of-requires : tie.Need-kind-of-requires
+kind-of-requires c κs = search needs
+
+enum-told : tie.Need-enum-told
+enum-told c = search needs
+
+sub-edge-of : tie.Need-sub-edge-of
+sub-edge-of c =
+    let s = c .before .before .before .before .args .bytes .now in
+    omega (arith, arc-long s (sym (c .before .before .kind-of .ensures) ∙ c .enum-told .given .1))
+
+part-edge-of-start : tie.Need-part-edge-of-start
+part-edge-of-start c =
+    let s = c .before .before .before .before .args .bytes .now in
+    omega (arith, arc-long s (sym (c .before .before .kind-of .ensures) ∙ c .enum-told .given .1))
+
+part-edge-of-end : tie.Need-part-edge-of-end
+part-edge-of-end c = search needs
+
+edge-of-requires : tie.Need-edge-of-requires
+edge-of-requires c κs =
+    let s = c .before .before .before .before .before .args .bytes .now in
+    omega (arith, arc-long s (sym (c .before .before .before .kind-of .ensures) ∙ c .before .enum-told .given .1))
+
+enum-told-2 : tie.Need-enum-told-2
+enum-told-2 c = search needs
+
+enum-told-3 : tie.Need-enum-told-3
+enum-told-3 c = search needs
+
+enum-told-4 : tie.Need-enum-told-4
+enum-told-4 c = search needs
+
+returns : tie.Need-returns
+unfolding recordOf
+returns c =
+    let s = c .before .before .before .before .before .before .args .bytes .now in
+    ap first.Arc (c .edge-of .ensures ∙ ap edgeOf (after-head s))
+    ∙ ap (λ k. ofKind k (drop 3 s)) (sym (sym (c .before .before .before .before .kind-of .ensures) ∙ c .before .before .enum-told .given .1))
+
+returns-2 : tie.Need-returns-2
+unfolding recordOf
+returns-2 c = simp (← c .before .before .kind-of .ensures, c .enum-told2 .given .1)
+
+returns-3 : tie.Need-returns-3
+unfolding recordOf
+returns-3 c = simp (← c .before .before .kind-of .ensures, c .enum-told3 .given .1)
+
+returns-4 : tie.Need-returns-4
+unfolding recordOf
+returns-4 c = simp (← c .before .before .kind-of .ensures, c .enum-told4 .given .1)
+
+pub record-of-spec : {M : Type 1} → statement M
+record-of-spec =
+    tie.close
+    (tie.spec
+    kind-of-requires
+    enum-told
+    sub-edge-of
+    part-edge-of-start
+    part-edge-of-end
+    edge-of-requires
+    enum-told-2
+    enum-told-3
+    enum-told-4
+    returns
+    returns-2
+    returns-3
+    returns-4)
