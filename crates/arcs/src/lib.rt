@@ -4,9 +4,10 @@ ghost use mathlib.Core.Bool.{_&&_};
 ghost use Rattle.checked.specs.Checked.{numberDue, settled, within};
 ghost use Rattle.vectors.specs.Vectors.{within3};
 ghost use Rattle.vectors.specs.Entries.{vectorDue};
-ghost use Rattle.boxes.specs.Boxes.{widenedDue};
+ghost use Rattle.boxes.specs.Boxes.{widenedDue, outcome, Lent};
 ghost use Rattle.arcs.specs.Entries.{arcDue, arcWithin, endsWithin, reversedDue, sweepDue, atDue, extendDue};
 use boxes::Bounds;
+use boxes::Outcome;
 use boxes::Widened;
 use checked::BAD_BOX_OR_SUMS;
 use checked::Number;
@@ -119,5 +120,21 @@ impl Arc {
         } else {
             Widened::Refused(OUT_OF_RANGE)
         }
+    }
+
+    // What is left of a box after the call, and the number that it answers.
+    fn outcome(self, from: Vec3, to: Vec3, bounds: Bounds) -> Outcome
+        ensures { λ r. ⌜ r ≡ outcome bounds (extendDue self from to bounds) ⌝ }
+    {
+        boxes::after(bounds, self.extended(from, to, bounds))
+    }
+
+    // The lent box widened by the arc: 0 where it is accepted, else the refusal's number, and the box is as it was.
+    pub fn extend_bounds(self, from: Vec3, to: Vec3, bounds: &mut Bounds) -> u8
+        ensures { λ r. ⌜ Lent (extendDue self from to) (now (bounds .entry)) r (now (bounds .exit)) ⌝ }
+    {
+        let end = self.outcome(from, to, *bounds);
+        *bounds = end.bounds;
+        end.number
     }
 }

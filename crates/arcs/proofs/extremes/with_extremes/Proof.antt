@@ -36,7 +36,7 @@ returns-2 c =
     let w = c .before .before .before .before .across2 .ensures in
     let w₁ = c .before .before .before .before .before .across .ensures in
     let none = c .if1 .left in
-    (simp (c .before .note .ensures, len, w, w₁, extremes-refusal, simp (len, w, w₁) at none, first-zero), unfold extremesC in simp (len, w, w₁, simp (len, w, w₁) at none, widened-none))
+    (simp (c .before .note .ensures, len, w, w₁, extremes-refusal, simp (len, w, w₁) at none, first-zero), unfold extremesC in simp (simp (len, w, w₁) at none, widened-none))
 
 pub with-extremes-spec : {M : Type 1} → statement M
 with-extremes-spec =

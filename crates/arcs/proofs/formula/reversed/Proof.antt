@@ -2,9 +2,6 @@ use borrow.Author.Needs.{needs}
 use Rattle.arcs.specs.Arcs.{reversedC}
 use Rattle.checked.specs.Laws.{rules as checked-rules}
 use Rattle.vectors.specs.Laws.{rules as vectors-rules}
-use Rattle.angles.specs.Laws.{rules as angles-rules}
-use Rattle.directions.specs.Laws.{rules as directions-rules}
-use Rattle.boxes.specs.Laws.{rules as boxes-rules}
 use Rattle.arcs.proofs.formula.reversed.Statement.{statement}
 use Rattle.arcs.proofs.formula.reversed.Tie as tie
 
@@ -16,7 +13,7 @@ noted-requires c κs = search needs
 
 returns : tie.Need-returns
 unfolding reversedC
-returns c = (simp (c .noted .ensures, c .before .neg .ensures, checked-rules, vectors-rules, angles-rules, directions-rules, boxes-rules), simp (c .before .neg .ensures))
+returns c = (simp (c .noted .ensures, c .before .neg .ensures, checked-rules, vectors-rules), simp (c .before .neg .ensures))
 
 pub reversed-spec : {M : Type 1} → statement M
 reversed-spec = tie.close (tie.spec neg-requires noted-requires returns)

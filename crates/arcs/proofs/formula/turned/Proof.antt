@@ -1,6 +1,6 @@
 use borrow.Author.Needs.{needs}
 use Rattle.arcs.specs.Arcs.{turnedC}
-use Rattle.checked.specs.Laws.{first-assoc, zero-first}
+use Rattle.checked.specs.Laws.{first-assoc}
 use Rattle.arcs.specs.Laws.{turned-refusal}
 use mathlib.Core.Path.{sym, _∙_}
 use Rattle.arcs.proofs.formula.turned.Statement.{statement}
@@ -29,7 +29,7 @@ noted-requires c κs = search needs
 
 returns : tie.Need-returns
 unfolding turnedC
-returns c = ((simp (c .noted .ensures, c .before .plus2 .ensures, c .before .before .times2 .ensures, c .before .before .before .cross .ensures, c .before .before .before .before .plus .ensures, c .before .before .before .before .before .times .ensures, c .before .before .before .before .before .before .before .sincos .ensures .0, c .before .before .before .before .before .before .before .sincos .ensures .1, first-assoc, zero-first)) ∙ sym (turned-refusal (c .before .before .before .before .before .before .before .before .args .arc) (c .before .before .before .before .before .before .before .before .args .d) (c .before .before .before .before .before .before .before .before .args .t)), simp (c .before .plus2 .ensures, c .before .before .times2 .ensures, c .before .before .before .cross .ensures, c .before .before .before .before .plus .ensures, c .before .before .before .before .before .times .ensures, c .before .before .before .before .before .before .before .sincos .ensures .1))
+returns c = ((simp (c .noted .ensures, c .before .plus2 .ensures, c .before .before .times2 .ensures, c .before .before .before .cross .ensures, c .before .before .before .before .plus .ensures, c .before .before .before .before .before .times .ensures, c .before .before .before .before .before .before .before .sincos .ensures .0, c .before .before .before .before .before .before .before .sincos .ensures .1, first-assoc)) ∙ sym (turned-refusal (c .before .before .before .before .before .before .before .before .args .arc) (c .before .before .before .before .before .before .before .before .args .d) (c .before .before .before .before .before .before .before .before .args .t)), simp (c .before .plus2 .ensures, c .before .before .times2 .ensures, c .before .before .before .cross .ensures, c .before .before .before .before .plus .ensures, c .before .before .before .before .before .times .ensures, c .before .before .before .before .before .before .before .sincos .ensures .1))
 
 pub turned-spec : {M : Type 1} → statement M
 turned-spec =
