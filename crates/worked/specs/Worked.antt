@@ -1,0 +1,91 @@
+-- Cases worked out by hand: one list, which one lemma checks by computing what is due.
+use Prim.Native.Nat.{ℕ}
+use mathlib.Core.Path.{_≡_, refl}
+use mathlib.Core.Bool.{Bool, true, false}
+use mathlib.Core.List.{List, [], _∷_}
+use lib.Ieee.{Float, binary64, add, sub, mul, div, neg, lt, le, eq, isNan, ofBits, toBits}
+use Rattle.checked.specs.Checked.{Due, due, first, isFinite, nine, within, settled}
+use Rattle.words.specs.Words.{fabs, signed, choose}
+use Rattle.rounding.specs.Root.{sqrt}
+use Rattle.arctangent.specs.Arctangent.{reduced, atan, isOne, ratioAngle, angle, atan2}
+use Rattle.order.specs.Least.{negative, least, greatest}
+use Rattle.vectors.specs.declared.Vec2.{Vec2}
+use Rattle.vectors.specs.declared.Vec3.{Vec3}
+use Rattle.vectors.specs.Vectors.{zero, one, space, plane, origin, within2, within3, plusC, minusC, timesC, negC, crossC, dotC}
+use Rattle.boxes.specs.Boxes.{empty, lesser, greater, widened, widenedBy, numbers, free, boxCall}
+use Rattle.boxes.specs.declared.Bounds.{Bounds}
+use Rattle.profiles.specs.declared.ProfileArc.{ProfileArc}
+use Rattle.directions.specs.Directions.{lengthC, acrossC}
+use Rattle.angles.specs.Angles.{aheadC, backC}
+use Rattle.profiles.specs.Profiles.{apartC, turnC, turnDue}
+use Rattle.arcs.specs.declared.Arc.{Arc}
+use Rattle.arcs.specs.Arcs.{sweepFromC, sweepC}
+use Rattle.arcs.specs.Extremes.{sideC, takenC, bothC, extremesC, pointsC}
+use Rattle.arcs.specs.Entries.{arcWithin, endsWithin, sweepDue, extendDue}
+
+-- what a case says
+pub data Case : Type 0 where
+  -- the sweep of an arc from one point to another
+  sweeps : Arc → Vec3 → Vec3 → Float → Case
+  -- the box of an arc from one point to another
+  boxed : Arc → Vec3 → Vec3 → Vec3 → Vec3 → Case
+  -- the turn of a profile arc
+  turns : ProfileArc → Vec2 → Vec2 → Float → Case
+
+-- it holds where the definitions compute to it
+abbrev pub Holds : Case → Type 0
+Holds (sweeps arc from to angle) = sweepDue arc from to ≡ due angle
+Holds (boxed arc from to low high) = extendDue arc from to empty ≡ due (record { low = low; high = high })
+Holds (turns arc a b angle) = turnDue arc a b ≡ due angle
+
+abbrev pub All : List Case → Type 0
+All [] = Unit
+All (c ∷ cs) = Holds c × All cs
+
+-- 5, 2π, π/2, 3π/2
+abbrev five : Float
+five = ofBits binary64 0x4014_0000_0000_0000
+
+abbrev fullTurn : Float
+fullTurn = ofBits binary64 0x4019_21fb_5444_2d18
+
+abbrev quarterTurn : Float
+quarterTurn = ofBits binary64 0x3ff9_21fb_5444_2d18
+
+abbrev threeQuarters : Float
+threeQuarters = ofBits binary64 0x4012_d97c_7f33_21d2
+
+-- the arc A: centre at the origin, axis along z, radius 5; and A run the other way
+abbrev A : Arc
+A = record { center = origin; axis = space zero zero one; radius = five }
+
+abbrev Aʳ : Arc
+Aʳ = record { center = origin; axis = space (neg zero) (neg zero) (neg one); radius = five }
+
+abbrev east : Vec3
+east = space five zero zero
+
+abbrev north : Vec3
+north = space zero five zero
+
+abbrev west : Vec3
+west = space (neg five) zero zero
+
+-- clockwise around the origin
+abbrev clockwise : ProfileArc
+clockwise = record { center = plane zero zero; ccw = false }
+
+pub cases : List Case
+cases =
+    sweeps A east east fullTurn
+    ∷ sweeps A east north quarterTurn
+    ∷ sweeps Aʳ east north threeQuarters
+    ∷ boxed A east north origin (space five five zero)
+    ∷ boxed A east west (space (neg five) zero zero) (space five five zero)
+    ∷ turns clockwise (plane five zero) (plane five zero) (neg fullTurn)
+    ∷ []
+
+-- every case computes
+pub all-hold : All cases
+unfolding cases add sub mul div neg lt le eq isNan ofBits toBits first isFinite nine within settled fabs signed choose sqrt reduced atan isOne ratioAngle angle atan2 negative least greatest within2 within3 plusC minusC timesC negC crossC dotC lesser greater widened widenedBy numbers free boxCall lengthC acrossC aheadC backC apartC turnC turnDue sweepFromC sweepC sideC takenC bothC extremesC pointsC arcWithin endsWithin sweepDue extendDue
+all-hold = (refl, (refl, (refl, (refl, (refl, (refl, tt))))))
