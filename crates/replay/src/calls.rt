@@ -1,0 +1,114 @@
+// The operations by their numbers: each calls its entry on a line's inputs, and says whether the answer is the line's.
+use crate::answers::is_arc;
+use crate::answers::is_box;
+use crate::answers::is_index;
+use crate::answers::is_motion;
+use crate::answers::is_number;
+use crate::answers::is_sines;
+use crate::answers::is_value;
+use crate::answers::is_vector;
+use crate::fields::arc;
+use crate::fields::bounds;
+use crate::fields::number;
+use crate::fields::pattern;
+use crate::fields::rigid;
+use crate::fields::vec2;
+use crate::fields::vec3;
+use motions::Rigid;
+use profiles::ProfileArc;
+
+// What came of a line.
+pub enum Verdict {
+    Alike,
+    Different,
+    NotRun,
+}
+
+fn of_numbers(operation: u64, line: &[u8]) -> bool {
+    let x = number(line, 0);
+    let y = number(line, 1);
+    match operation {
+        1 => is_value(line, 1, rounding::sqrt(x)),
+        2 => is_value(line, 1, rounding::ceil(x)),
+        3 => is_value(line, 1, rounding::round(x)),
+        4 => is_number(line, 1, checked::settle(circle::sin(x))),
+        5 => is_sines(line, circle::sincos(x)),
+        6 => is_value(line, 2, arctangent::atan2(x, y)),
+        7 => is_value(line, 1, roots::acos(x)),
+        8 => is_value(line, 2, roots::hypot(x, y)),
+        _ => false,
+    }
+}
+
+fn of_vectors(operation: u64, line: &[u8]) -> bool {
+    let a = vec3(line, 0);
+    let b = vec3(line, 3);
+    match operation {
+        9 => is_number(line, 6, a.dot(b)),
+        10 => is_vector(line, 6, a.cross(b)),
+        11 => is_vector(line, 6, a.sum(b)),
+        12 => is_vector(line, 6, a.difference(b)),
+        13 => is_vector(line, 3, a.negation()),
+        14 => is_vector(line, 4, a.times(number(line, 3))),
+        15 => is_index(line, 3, a.dominant_axis()),
+        _ => false,
+    }
+}
+
+fn of_motions(operation: u64, line: &[u8]) -> bool {
+    let m = rigid(line);
+    match operation {
+        16 => is_motion(line, 4, Rigid::rotation(m.rot.x, number(line, 3))),
+        17 => is_motion(line, 12, Rigid::frame(m.rot.x, m.rot.y, m.rot.z, m.shift)),
+        18 => is_vector(line, 15, m.apply(vec3(line, 12))),
+        19 => is_vector(line, 15, m.apply_vector(vec3(line, 12))),
+        _ => false,
+    }
+}
+
+fn of_profiles(operation: u64, line: &[u8]) -> bool {
+    match operation {
+        20 => {
+            let p = ProfileArc {
+                center: vec2(line, 0),
+                ccw: pattern(line, 2) == 1,
+            };
+            is_number(line, 7, p.turn(vec2(line, 3), vec2(line, 5)))
+        }
+        21 => is_vector(line, 3, directions::unit(vec3(line, 0))),
+        _ => false,
+    }
+}
+
+fn of_arcs(operation: u64, line: &[u8]) -> bool {
+    let a = arc(line);
+    let from = vec3(line, 7);
+    let to = vec3(line, 10);
+    match operation {
+        23 => is_arc(line, a.reversed()),
+        24 => is_number(line, 13, a.sweep(from, to)),
+        25 => is_vector(line, 11, a.at(from, number(line, 10))),
+        27 => is_box(line, a.extended(from, to, bounds(line))),
+        _ => false,
+    }
+}
+
+fn judged(is_alike: bool) -> Verdict {
+    if is_alike {
+        Verdict::Alike
+    } else {
+        Verdict::Different
+    }
+}
+
+// Operations that have no entry yet are not run; one that nobody knows is a difference.
+pub fn run(operation: u64, line: &[u8]) -> Verdict {
+    match operation {
+        1..=8 => judged(of_numbers(operation, line)),
+        9..=15 => judged(of_vectors(operation, line)),
+        16..=19 => judged(of_motions(operation, line)),
+        20..=21 => judged(of_profiles(operation, line)),
+        22 | 26 => Verdict::NotRun,
+        _ => judged(of_arcs(operation, line)),
+    }
+}

@@ -1,0 +1,240 @@
+// Runs the list of the Rust's answers against the port: one line for each operation, and one for each call whose answer is another.
+ghost use Prim.Native.Nat.{_≤_};
+ghost use lib.ListN.{length};
+use calls::Verdict;
+use std::num::wrapping_add_u32;
+use std::num::wrapping_add_u64;
+
+mod answers;
+mod calls;
+mod fields;
+mod names;
+
+// How many calls came out how.
+struct Tally {
+    alike: u64,
+    different: u64,
+    not_run: u64,
+}
+
+// What stands after a line: where the next one begins, the line's number, its operation, the tally of that and of all.
+struct Progress {
+    is_over: bool,
+    at: u32,
+    line: u64,
+    operation: u64,
+    here: Tally,
+    all: Tally,
+}
+
+// More lines than the list has.
+const MOST: u32 = 1_000_000;
+
+const NONE: Tally = Tally {
+    alike: 0,
+    different: 0,
+    not_run: 0,
+};
+
+impl Tally {
+    fn with(self, v: Verdict) -> Tally {
+        match v {
+            Verdict::Alike => Tally {
+                alike: wrapping_add_u64(self.alike, 1),
+                different: self.different,
+                not_run: self.not_run,
+            },
+            Verdict::Different => Tally {
+                alike: self.alike,
+                different: wrapping_add_u64(self.different, 1),
+                not_run: self.not_run,
+            },
+            Verdict::NotRun => Tally {
+                alike: self.alike,
+                different: self.different,
+                not_run: wrapping_add_u64(self.not_run, 1),
+            },
+        }
+    }
+
+    fn print(self) {
+        say(b" ");
+        tell(self.alike);
+        say(b" alike, ");
+        tell(self.different);
+        say(b" different");
+        if self.not_run > 0 {
+            say(b", ");
+            tell(self.not_run);
+            say(b" not run");
+        }
+        say(b"\n");
+    }
+}
+
+fn say(text: &[u8]) {
+    io::write_all(libc::STDOUT_FILENO, text);
+}
+
+fn tell(n: u64) {
+    io::print_decimal(libc::STDOUT_FILENO, n);
+}
+
+// Where the first line ends: the place of its newline, or the whole length where there is none.
+fn line_end(s: &[u8]) -> usize
+    ensures { λ r. ⌜ r ≤ length (now (s .entry)) ⌝ }
+{
+    let mut i = 0;
+    while i < s.len() {
+        if s[i] == 10 {
+            return i;
+        }
+        i += 1;
+    }
+    i
+}
+
+impl Progress {
+    // The line of an operation, where there is one.
+    fn print(self) {
+        let here = self.here;
+        if self.operation > 0 {
+            names::name(self.operation);
+            here.print();
+        }
+    }
+
+    // On to a line's operation: the one before is printed where that was another.
+    fn turned(self, operation: u64) -> Progress {
+        let all = self.all;
+        if operation == self.operation {
+            self
+        } else {
+            self.print();
+            Progress {
+                is_over: false,
+                at: self.at,
+                line: self.line,
+                operation,
+                here: NONE,
+                all,
+            }
+        }
+    }
+
+    // With a line's verdict.
+    fn with(self, v: Verdict) -> Progress {
+        let here = self.here;
+        let all = self.all;
+        Progress {
+            is_over: false,
+            at: self.at,
+            line: self.line,
+            operation: self.operation,
+            here: here.with(v),
+            all: all.with(v),
+        }
+    }
+
+    // Past a line of so many bytes.
+    fn past(self, bytes: u32) -> Progress {
+        let here = self.here;
+        let all = self.all;
+        Progress {
+            is_over: false,
+            at: wrapping_add_u32(self.at, bytes),
+            line: wrapping_add_u64(self.line, 1),
+            operation: self.operation,
+            here,
+            all,
+        }
+    }
+
+    fn ended(self) -> Progress {
+        let here = self.here;
+        let all = self.all;
+        Progress {
+            is_over: true,
+            at: self.at,
+            line: self.line,
+            operation: self.operation,
+            here,
+            all,
+        }
+    }
+}
+
+// A line that is no call: empty, or a comment.
+fn is_comment(line: &[u8]) -> bool {
+    if line.len() > 0 {
+        line[0] == b'#'
+    } else {
+        true
+    }
+}
+
+fn ran(line: &[u8], number: u64, operation: u64) -> Verdict {
+    let v = calls::run(operation, line);
+    match v {
+        Verdict::Different => {
+            say(b"different at line ");
+            tell(number);
+            say(b"\n");
+        }
+        Verdict::Alike | Verdict::NotRun => {}
+    }
+    v
+}
+
+fn step(line: &[u8], p: Progress) -> Progress {
+    if is_comment(line) {
+        return p;
+    }
+    let operation = fields::operation(line);
+    let q = p.turned(operation);
+    q.with(ran(line, q.line, operation))
+}
+
+// One line read and run. What comes after the last newline ends the list.
+fn next(fd: i32, p: Progress) -> Progress {
+    let mut buf = io::buffer();
+    let got = libc::pread(fd, &mut buf, p.at as i64);
+    let n = io::count(got, &buf);
+    let end = line_end(&buf[..n]);
+    if end < n {
+        let q = p.past(end as u32 + 1);
+        step(&buf[..end], q)
+    } else {
+        p.ended()
+    }
+}
+
+fn replay(fd: i32) {
+    let mut p = Progress {
+        is_over: false,
+        at: 0,
+        line: 0,
+        operation: 0,
+        here: NONE,
+        all: NONE,
+    };
+    let mut turns = MOST;
+    while turns > 0 && !p.is_over {
+        p = next(fd, p);
+        turns -= 1;
+    }
+    p.print();
+    let all = p.all;
+    say(b"all");
+    all.print();
+}
+
+fn main() {
+    let fd = os::open_read(b"answers.txt");
+    if fd < 0 {
+        os::fail(b"answers.txt");
+        return;
+    }
+    replay(fd);
+    libc::close(fd);
+}
