@@ -1,10 +1,12 @@
 -- Cases worked out by hand: one list, which one lemma checks by computing what is due.
-use Prim.Native.Nat.{ℕ}
+use Prim.Native.Nat.{ℕ, zero as none, suc, _/_, _%_}
+use Prim.Native.String.{String}
 use mathlib.Core.Path.{_≡_, refl}
 use mathlib.Core.Bool.{Bool, true, false}
-use mathlib.Core.List.{List, [], _∷_}
+use mathlib.Core.List.{List, [], _∷_, _++_}
 use lib.Ieee.{Float, binary64, add, sub, mul, div, neg, lt, le, eq, isNan, ofBits, toBits}
 use Rattle.checked.specs.Checked.{Due, due, first, isFinite, nine, within, settled}
+use Rattle.checked.specs.Patterns.{bits}
 use Rattle.words.specs.Words.{fabs, signed, choose}
 use Rattle.rounding.specs.Root.{sqrt}
 use Rattle.arctangent.specs.Arctangent.{reduced, atan, isOne, ratioAngle, angle, atan2}
@@ -19,24 +21,35 @@ use Rattle.directions.specs.Directions.{lengthC, acrossC}
 use Rattle.angles.specs.Angles.{aheadC, backC}
 use Rattle.profiles.specs.Profiles.{apartC, turnC, turnDue}
 use Rattle.arcs.specs.declared.Arc.{Arc}
-use Rattle.arcs.specs.Arcs.{sweepFromC, sweepC}
+use Rattle.arcs.specs.Arcs.{reversedC, sweepFromC, sweepC}
 use Rattle.arcs.specs.Extremes.{sideC, takenC, bothC, extremesC, pointsC}
-use Rattle.arcs.specs.Entries.{arcWithin, endsWithin, sweepDue, extendDue}
+use Rattle.arcs.specs.Entries.{arcWithin, endsWithin, reversedDue, sweepDue, extendDue}
+use Rattle.decimals.specs.Thousandths.{signed as signedWhole, thousandths}
+use Rattle.decimals.specs.Digits.{spelled, digits, numeral}
+use Rattle.edge_lines.specs.Lines.{bytes, spaced, corner, emptyLine, refusedLine, boxLine}
+use Rattle.edge_records.specs.Records.{lowFirst, numberAt, pointAt, headOf, cut, kindOf, edgeOf, recordOf}
+use Rattle.edge_file.specs.EdgeFile.{next, printed, ended, lineFrom, lineOf}
 
 -- what a case says
 pub data Case : Type 0 where
+  -- an arc, and the same run the other way
+  reverses : Arc → Arc → Case
   -- the sweep of an arc from one point to another
   sweeps : Arc → Vec3 → Vec3 → Float → Case
   -- the box of an arc from one point to another
   boxed : Arc → Vec3 → Vec3 → Vec3 → Vec3 → Case
   -- the turn of a profile arc
   turns : ProfileArc → Vec2 → Vec2 → Float → Case
+  -- the line that is printed of a file
+  prints : List ℕ → String → Case
 
 -- it holds where the definitions compute to it
 abbrev pub Holds : Case → Type 0
+Holds (reverses arc back) = reversedDue arc ≡ due back
 Holds (sweeps arc from to angle) = sweepDue arc from to ≡ due angle
 Holds (boxed arc from to low high) = extendDue arc from to empty ≡ due (record { low = low; high = high })
 Holds (turns arc a b angle) = turnDue arc a b ≡ due angle
+Holds (prints file line) = lineOf file ≡ bytes line
 
 abbrev pub All : List Case → Type 0
 All [] = Unit
@@ -75,17 +88,41 @@ west = space (neg five) zero zero
 abbrev clockwise : ProfileArc
 clockwise = record { center = plane zero zero; ccw = false }
 
+-- ---- an edge file
+-- n as k bytes, low byte first
+unfoldable inBytes : ℕ → ℕ → List ℕ
+inBytes none n = []
+inBytes (suc k) n = n % 256 ∷ inBytes k (n / 256)
+
+unfoldable number : Float → List ℕ
+unfolding inBytes
+number x = inBytes 8 (bits x)
+
+unfoldable point : Vec3 → List ℕ
+unfolding number
+point p = number (p .x) ++ number (p .y) ++ number (p .z)
+
+-- a record of tag 1 and length 104, and the end record
+unfoldable arcRecord : Arc → Vec3 → Vec3 → List ℕ
+unfolding point number
+arcRecord arc from to = 1 ∷ 104 ∷ 0 ∷ point (arc .center) ++ point (arc .axis) ++ number (arc .radius) ++ point from ++ point to
+
+abbrev endRecord : List ℕ
+endRecord = 127 ∷ 0 ∷ 0 ∷ []
+
 pub cases : List Case
 cases =
-    sweeps A east east fullTurn
+    reverses A Aʳ
+    ∷ sweeps A east east fullTurn
     ∷ sweeps A east north quarterTurn
     ∷ sweeps Aʳ east north threeQuarters
     ∷ boxed A east north origin (space five five zero)
     ∷ boxed A east west (space (neg five) zero zero) (space five five zero)
+    ∷ prints (arcRecord A east west ++ endRecord) "box -5000 0 0 5000 5000 0\n"
     ∷ turns clockwise (plane five zero) (plane five zero) (neg fullTurn)
     ∷ []
 
 -- every case computes
 pub all-hold : All cases
-unfolding cases add sub mul div neg lt le eq isNan ofBits toBits first isFinite nine within settled fabs signed choose sqrt reduced atan isOne ratioAngle angle atan2 negative least greatest within2 within3 plusC minusC timesC negC crossC dotC lesser greater widened widenedBy numbers free boxCall lengthC acrossC aheadC backC apartC turnC turnDue sweepFromC sweepC sideC takenC bothC extremesC pointsC arcWithin endsWithin sweepDue extendDue
-all-hold = (refl, (refl, (refl, (refl, (refl, (refl, tt))))))
+unfolding cases add sub mul div neg lt le eq isNan ofBits toBits first isFinite nine within settled fabs signed choose sqrt reduced atan isOne ratioAngle angle atan2 negative least greatest within2 within3 plusC minusC timesC negC crossC dotC lesser greater widened widenedBy numbers free boxCall lengthC acrossC aheadC backC apartC turnC turnDue sweepFromC sweepC sideC takenC bothC extremesC pointsC arcWithin endsWithin sweepDue extendDue reversedC reversedDue inBytes number point arcRecord signedWhole thousandths spelled digits numeral bytes spaced corner emptyLine refusedLine boxLine lowFirst numberAt pointAt headOf cut kindOf edgeOf recordOf next printed ended lineFrom lineOf
+all-hold = (refl, (refl, (refl, (refl, (refl, (refl, (refl, (refl, tt))))))))
