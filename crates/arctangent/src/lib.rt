@@ -1,5 +1,6 @@
 // The arctangents of libm 0.2.1: specs/Arctangent.antt has them operation by operation.
 ghost use mathlib.Core.Path.{_≡_};
+ghost use Prim.Native.Nat.{_<_};
 ghost use mathlib.Core.Bool.{not};
 ghost use lib.Dec.{T};
 ghost use lib.Ieee as Ieee;
@@ -193,10 +194,14 @@ fn ratio_angle(y: f64, x: f64) -> f64
     }
 }
 
+// A table in place of branches: which quadrant comes next is often guessed wrong.
 fn in_quadrant(m: u64, z: f64) -> f64
+    requires { ⌜ m < 4 ⌝ }
     ensures { λ r. ⌜ r ≡ Atan.inQuadrant m z ⌝ }
 {
-    choose(m, z, -z, PI - (z - PI_LO), (z - PI_LO) - PI)
+    let table = [z, -z, PI - (z - PI_LO), (z - PI_LO) - PI];
+    let at = m as usize;
+    table[at]
 }
 
 // The angle of the point (x, y), neither a NaN.

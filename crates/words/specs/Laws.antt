@@ -1,8 +1,10 @@
 -- A number, its pattern without the sign, and what these read as. Assumes nothing.
 use mathlib.Core.Path.{_≡_, refl, sym, ap, _∙_, subst}
+use mathlib.Core.List.{[], _∷_}
 use mathlib.Core.Bool.{Bool, true, false, not, cond}
 use Prim.Native.Nat.{ℕ, zero, suc, _+_, _-_, _*_, _/_, _%_, _^_, _<_, _≤_}
 use native.Mathlib.Omega.{arith}
+use lib.ListN.{getD}
 use lib.Dec.{T, leb, ltb, eqb}
 use borrow.Author.Tests.{lt-leb, lt-ltb, le-ltb}
 use lib.Ieee.{Float, nan, inf, fin, Format, binary64, prec, low, hid, ones, odd, ne, isNan, toBits, ofBits, ofFields, nanBits, fits}
@@ -10,7 +12,7 @@ use lib.Ieee.Bits.{ofBits-toBits, toBits-ofBits, toBits-lt, nanBits-is}
 use lib.Ieee.Compare.{differs-from-itself}
 use Rattle.checked.specs.Patterns.{bits, high-word}
 use Rattle.checked.specs.PatternLaws.{yes, no, ne-self}
-use Rattle.words.specs.Words.{size, sign, signed, fabs, float}
+use Rattle.words.specs.Words.{size, sign, signed, choose, fabs, float}
 
 -- ---- |x| is the number of the pattern without its sign
 
@@ -134,3 +136,13 @@ gap-yes a b k h = lt-ltb k (b - a) (omega arith)
 
 pub gap-no : (a b k : ℕ) → b ≤ a + k → ltb k (b - a) ≡ false
 gap-no a b k h = le-ltb k (b - a) (omega arith)
+
+-- ---- a choice among four is a place in a table
+
+pub chosen : (m : ℕ) (a b c d : Float) → m < 4 → getD (a ∷ b ∷ c ∷ d ∷ []) m nan ≡ choose m a b c d
+unfolding choose
+chosen zero a b c d h = refl
+chosen (suc zero) a b c d h = refl
+chosen (suc (suc zero)) a b c d h = refl
+chosen (suc (suc (suc zero))) a b c d h = refl
+chosen (suc (suc (suc (suc m)))) a b c d h = absurd (omega arith)

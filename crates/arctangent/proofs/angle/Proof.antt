@@ -64,7 +64,7 @@ ratio-angle-requires : tie.Need-ratio-angle-requires
 ratio-angle-requires c κs = search needs
 
 in-quadrant-requires : tie.Need-in-quadrant-requires
-in-quadrant-requires c κs = search needs
+in-quadrant-requires c κs = omega (arith, c .before .before .before .before .before .before .before .before .before .sign2 .ensures, c .before .before .before .before .before .before .before .before .before .before .sign .ensures, sign-most (c .before .before .before .before .before .before .before .before .before .before .before .before .before .args .x) (held-x (c .before .before .before .before .before .before .before .before .before .before .before .before .before)), sign-most (c .before .before .before .before .before .before .before .before .before .before .before .before .before .args .y) (held-y (c .before .before .before .before .before .before .before .before .before .before .before .before .before)))
 
 returns : tie.Need-returns
 unfolding angle
