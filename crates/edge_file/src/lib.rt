@@ -158,7 +158,7 @@ impl Reading {
 
     // The line where no more bytes come, at the end of the buffer; the answer is where it begins.
     pub fn finish(self, out: &mut [u8; 160]) -> usize
-        ensures { λ r. ⌜ r ≤ length (now (out .exit)) ⌝ }
+        ensures { λ r. ⌜ (r ≤ 160) × (length (now (out .exit)) ≡ 160) ⌝ }
         ensures { λ r. ⌜ drop r (now (out .exit)) ≡ Steps.lineOn self [] ⌝ }
     {
         let status = self.status;

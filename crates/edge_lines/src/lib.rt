@@ -133,24 +133,24 @@ fn put_empty(out: &mut [u8]) -> usize
 }
 
 // The line of a file without an edge, at the end of the buffer; the answer is where it begins, here and below.
-pub fn empty_line(out: &mut [u8; 160]) -> usize
-    ensures { λ r. ⌜ r ≤ length (now (out .exit)) ⌝ }
+pub fn empty_line(out: &mut [u8; ROOM]) -> usize
+    ensures { λ r. ⌜ (r ≤ 160) × (length (now (out .exit)) ≡ 160) ⌝ }
     ensures { λ r. ⌜ drop r (now (out .exit)) ≡ emptyLine ⌝ }
 {
     put_empty(out)
 }
 
 // The line of a refusal, by its number, at record k.
-pub fn refused_line(number: u8, k: u64, out: &mut [u8; 160]) -> usize
-    ensures { λ r. ⌜ r ≤ length (now (out .exit)) ⌝ }
+pub fn refused_line(number: u8, k: u64, out: &mut [u8; ROOM]) -> usize
+    ensures { λ r. ⌜ (r ≤ 160) × (length (now (out .exit)) ≡ 160) ⌝ }
     ensures { λ r. ⌜ drop r (now (out .exit)) ≡ refusedLine number k ⌝ }
 {
     put_refused(number, k, out)
 }
 
 // The line of a box whose file ends with record k.
-pub fn box_line(low: Vec3, high: Vec3, k: u64, out: &mut [u8; 160]) -> usize
-    ensures { λ r. ⌜ r ≤ length (now (out .exit)) ⌝ }
+pub fn box_line(low: Vec3, high: Vec3, k: u64, out: &mut [u8; ROOM]) -> usize
+    ensures { λ r. ⌜ (r ≤ 160) × (length (now (out .exit)) ≡ 160) ⌝ }
     ensures { λ r. ⌜ drop r (now (out .exit)) ≡ boxLine low high k ⌝ }
 {
     put_box(low, high, k, out)
