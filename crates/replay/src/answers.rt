@@ -1,8 +1,8 @@
 // An answer compared with what a line has after its inputs, pattern by pattern. The list has the zeros of a box's corners as the port
 // chooses them, so that they too are compared by their patterns.
-use crate::fields::count;
-use crate::fields::pattern;
-use crate::fields::refusal;
+use answer_lines::count;
+use answer_lines::pattern;
+use answer_lines::refusal;
 use arcs::ArcAnswer;
 use boxes::Widened;
 use checked::Number;

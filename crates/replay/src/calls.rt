@@ -7,13 +7,13 @@ use crate::answers::is_number;
 use crate::answers::is_sines;
 use crate::answers::is_value;
 use crate::answers::is_vector;
-use crate::fields::arc;
-use crate::fields::bounds;
-use crate::fields::number;
-use crate::fields::pattern;
-use crate::fields::rigid;
-use crate::fields::vec2;
-use crate::fields::vec3;
+use crate::inputs::arc;
+use crate::inputs::bounds;
+use crate::inputs::number;
+use crate::inputs::rigid;
+use crate::inputs::vec2;
+use crate::inputs::vec3;
+use answer_lines::pattern;
 use motions::Rigid;
 use profiles::ProfileArc;
 
@@ -66,7 +66,7 @@ fn of_motions(operation: u64, line: &[u8]) -> bool {
     }
 }
 
-fn of_profiles(operation: u64, line: &[u8]) -> bool {
+fn of_turns(operation: u64, line: &[u8]) -> bool {
     match operation {
         20 => {
             let p = ProfileArc {
@@ -76,6 +76,7 @@ fn of_profiles(operation: u64, line: &[u8]) -> bool {
             is_number(line, 7, p.turn(vec2(line, 3), vec2(line, 5)))
         }
         21 => is_vector(line, 3, directions::unit(vec3(line, 0))),
+        22 => is_number(line, 2, chords::per_turn(number(line, 0), number(line, 1))),
         _ => false,
     }
 }
@@ -101,14 +102,14 @@ fn judged(is_alike: bool) -> Verdict {
     }
 }
 
-// Operations that have no entry yet are not run; one that nobody knows is a difference.
+// An operation that has no entry yet is not run; one that nobody knows is a difference.
 pub fn run(operation: u64, line: &[u8]) -> Verdict {
     match operation {
         1..=8 => judged(of_numbers(operation, line)),
         9..=15 => judged(of_vectors(operation, line)),
         16..=19 => judged(of_motions(operation, line)),
-        20..=21 => judged(of_profiles(operation, line)),
-        22 | 26 => Verdict::NotRun,
+        20..=22 => judged(of_turns(operation, line)),
+        26 => Verdict::NotRun,
         _ => judged(of_arcs(operation, line)),
     }
 }

@@ -1,13 +1,12 @@
 // Runs the list of the Rust's answers against the port: one line for each operation, and one for each call whose answer is another.
-ghost use Prim.Native.Nat.{_≤_};
-ghost use lib.ListN.{length};
+use bytes::scan::find;
 use calls::Verdict;
 use std::num::wrapping_add_u32;
 use std::num::wrapping_add_u64;
 
 mod answers;
 mod calls;
-mod fields;
+mod inputs;
 mod names;
 
 // How many calls came out how.
@@ -80,26 +79,12 @@ fn tell(n: u64) {
     io::print_decimal(libc::STDOUT_FILENO, n);
 }
 
-// Where the first line ends: the place of its newline, or the whole length where there is none.
-fn line_end(s: &[u8]) -> usize
-    ensures { λ r. ⌜ r ≤ length (now (s .entry)) ⌝ }
-{
-    let mut i = 0;
-    while i < s.len() {
-        if s[i] == 10 {
-            return i;
-        }
-        i += 1;
-    }
-    i
-}
-
 impl Progress {
     // The line of an operation, where there is one.
     fn print(self) {
         let here = self.here;
         if self.operation > 0 {
-            names::name(self.operation);
+            names::print(self.operation);
             here.print();
         }
     }
@@ -190,7 +175,7 @@ fn step(line: &[u8], p: Progress) -> Progress {
     if is_comment(line) {
         return p;
     }
-    let operation = fields::operation(line);
+    let operation = answer_lines::operation(line);
     let q = p.turned(operation);
     q.with(ran(line, q.line, operation))
 }
@@ -200,7 +185,7 @@ fn next(fd: i32, p: Progress) -> Progress {
     let mut buf = io::buffer();
     let got = libc::pread(fd, &mut buf, p.at as i64);
     let n = io::count(got, &buf);
-    let end = line_end(&buf[..n]);
+    let end = find(&buf, 0, n, 10);
     if end < n {
         let q = p.past(end as u32 + 1);
         step(&buf[..end], q)

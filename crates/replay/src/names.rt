@@ -1,35 +1,34 @@
-// The operations' names.
+// The operations' names, in the order of their numbers.
+ghost use Prim.Native.Nat.{_≤_};
+ghost use lib.ListN.{length};
 use crate::say;
+use bytes::scan::find;
 
-pub fn name(operation: u64) {
-    match operation {
-        1 => say(b"sqrt"),
-        2 => say(b"ceil"),
-        3 => say(b"round"),
-        4 => say(b"sin"),
-        5 => say(b"sincos"),
-        6 => say(b"atan2"),
-        7 => say(b"acos"),
-        8 => say(b"hypot"),
-        9 => say(b"dot"),
-        10 => say(b"cross"),
-        11 => say(b"sum"),
-        12 => say(b"difference"),
-        13 => say(b"negation"),
-        14 => say(b"times"),
-        15 => say(b"dominant_axis"),
-        16 => say(b"rotation"),
-        17 => say(b"frame"),
-        18 => say(b"apply"),
-        19 => say(b"apply_vector"),
-        20 => say(b"turn"),
-        21 => say(b"unit"),
-        22 => say(b"per_turn"),
-        23 => say(b"reversed"),
-        24 => say(b"sweep"),
-        25 => say(b"at"),
-        26 => say(b"inner_points"),
-        27 => say(b"extend_bounds"),
-        _ => say(b"unknown operation"),
+// Where word k of a text begins; its end where it has fewer.
+fn word(text: &[u8], k: u64) -> usize
+    ensures { λ r. ⌜ r ≤ length (now (text .entry)) ⌝ }
+{
+    let mut at = 0;
+    let mut left = k;
+    while left > 0 {
+        at = find(text, at, text.len(), b' ');
+        if at < text.len() {
+            at += 1;
+        }
+        left -= 1;
     }
+    at
+}
+
+fn print_word(text: &[u8], k: u64) {
+    let from = word(text, k);
+    let to = find(text, from, text.len(), b' ');
+    say(&text[from..to]);
+}
+
+pub fn print(operation: u64) {
+    print_word(
+        b"unknown sqrt ceil round sin sincos atan2 acos hypot dot cross sum difference negation times dominant_axis rotation frame apply apply_vector turn unit per_turn reversed sweep at inner_points extend_bounds",
+        operation,
+    );
 }

@@ -22,14 +22,11 @@ slice-aggregate-count c = search needs
 count-requires : tie.Need-count-requires
 count-requires c κs = search needs
 
-array-share-prefix-buf : tie.Need-array-share-prefix-buf
-array-share-prefix-buf c = search needs
+slice-aggregate-find : tie.Need-slice-aggregate-find
+slice-aggregate-find c = search needs
 
-slice-aggregate-line-end : tie.Need-slice-aggregate-line-end
-slice-aggregate-line-end c = search needs
-
-line-end-requires : tie.Need-line-end-requires
-line-end-requires c κs = search needs
+find-requires : tie.Need-find-requires
+find-requires c κs = search needs
 
 cast-past : tie.Need-cast-past
 cast-past c = search needs
@@ -40,8 +37,8 @@ add-past c = search needs
 past-requires : tie.Need-past-requires
 past-requires c κs = search needs
 
-array-share-prefix-buf-2 : tie.Need-array-share-prefix-buf-2
-array-share-prefix-buf-2 c = search needs
+array-share-prefix-buf : tie.Need-array-share-prefix-buf
+array-share-prefix-buf c = search needs
 
 slice-aggregate-step : tie.Need-slice-aggregate-step
 slice-aggregate-step c = simp length-take (omega arith)
@@ -68,13 +65,12 @@ next-spec =
     pread-requires
     slice-aggregate-count
     count-requires
-    array-share-prefix-buf
-    slice-aggregate-line-end
-    line-end-requires
+    slice-aggregate-find
+    find-requires
     cast-past
     add-past
     past-requires
-    array-share-prefix-buf-2
+    array-share-prefix-buf
     slice-aggregate-step
     step-requires
     ended-requires

@@ -1,8 +1,8 @@
 use borrow.Author.Needs.{needs}
-use Rattle.replay.specs.Fields.{digit}
+use Rattle.answer_lines.specs.Lines.{digit}
 use borrow.Author.Tests.{lt-ltb, le-ltb}
-use Rattle.replay.proofs.fields.digit.Statement.{statement}
-use Rattle.replay.proofs.fields.digit.Tie as tie
+use Rattle.answer_lines.proofs.digit.Statement.{statement}
+use Rattle.answer_lines.proofs.digit.Tie as tie
 
 cast-result : tie.Need-cast-result
 cast-result c = search needs

@@ -2,9 +2,10 @@ use Prim.Native.Nat.{_≤_, _-_}
 use mathlib.Core.Path.{_≡_, refl}
 use native.Mathlib.Omega.{arith}
 use borrow.Author.Needs.{needs}
-use Rattle.replay.specs.Fields.{spelt, spelt-more, spelt-fits, spelt-all, digit-small}
-use Rattle.replay.proofs.fields.hex.Statement.{statement}
-use Rattle.replay.proofs.fields.hex.Tie as tie
+use Rattle.answer_lines.specs.Lines.{spelt}
+use Rattle.answer_lines.specs.Laws.{spelt-more, spelt-fits, spelt-all, digit-small}
+use Rattle.answer_lines.proofs.hex.Statement.{statement}
+use Rattle.answer_lines.proofs.hex.Tie as tie
 
 abbrev Inv-loop : tie.InvT-loop
 Inv-loop line at n₀ i₀ n i = (i ≤ 16) × (n ≡ spelt 16 line at i)

@@ -1,24 +1,16 @@
--- What the digits in a line of the list stand for.
-use Prim.Native.Nat.{ℕ, zero, suc, _+_, _*_, _-_, _%_, _^_, _<_, _≤_}
+-- What the code counts on: digits are small, and sixteen of them fit.
+use Prim.Native.Nat.{ℕ, zero, suc, _+_, _*_, _-_, _/_, _%_, _^_, _<_, _≤_}
 use mathlib.Core.Bool.{Bool, true, false, cond}
-use mathlib.Core.Path.{_≡_, ap, _∙_}
+use mathlib.Core.Path.{_≡_, refl, ap, _∙_}
 use native.Mathlib.Nat.{pow-le-pow-right, pow-suc}
 use native.Mathlib.Omega.{arith}
 use native.Mathlib.Numerals.{add-one, unary-clauses}
 use mathlib.Core.List.{List}
-use lib.Dec.{ltb}
-use lib.ListN.{getD}
+use borrow.Author.Tests.{eqb-true}
+use lib.Dec.{ltb, eqb}
+use lib.ListN.{getD, length}
+use Rattle.answer_lines.specs.Lines.{digit, spelt, count}
 
--- a digit by its byte: `0` to `9` are 48 to 57, of which 48 is three times 16, and `a` to `f` are 97 to 102
-unfoldable pub digit : ℕ → ℕ
-digit b = cond (ltb b 97) (b % 16) ((b - 87) % 16)
-
--- the number that n digits spell from a place on, the highest first
-unfoldable pub spelt : ℕ → List ℕ → ℕ → ℕ → ℕ
-spelt base s at zero = 0
-spelt base s at (suc n) = spelt base s at n * base + digit (getD s (at + n) 0)
-
--- ---- laws
 either : (t : Bool) (m n : ℕ) → m < 16 → n < 16 → cond t m n < 16
 either true m n h k = h
 either false m n h k = k
@@ -50,3 +42,12 @@ spelt-fits s at i n e h = omega (arith, e, below s at i, pow-le-pow-right {n = 1
 
 pub spelt-all : (s : List ℕ) (at i n : ℕ) → n ≡ spelt 16 s at i → i ≤ 16 → 16 ≤ i → n ≡ spelt 16 s at 16
 spelt-all s at i n e h k = e ∙ ap (λ (j : ℕ). spelt 16 s at j) (omega arith)
+
+fits : (t : Bool) (k n : ℕ) → (t ≡ true → n % 17 ≡ 5) → k < cond t (n / 17) 0 → 22 + 17 * k ≤ n
+fits true k n e h = omega (arith, e refl)
+fits false k n e h = omega arith
+
+-- the pattern's digits are in the line
+pub pattern-fits : (s : List ℕ) (k n : ℕ) → n ≡ count s → k < n → 22 + 17 * k ≤ length s
+unfolding count
+pattern-fits s k n e h = fits (eqb (length s % 17) 5) k (length s) (eqb-true (length s % 17) 5) (omega (arith, e))

@@ -1,8 +1,8 @@
 use native.Mathlib.Omega.{arith}
 use borrow.Author.Needs.{needs}
-use Rattle.replay.specs.Fields.{spelt-two, digit-small}
-use Rattle.replay.proofs.fields.pair.Statement.{statement}
-use Rattle.replay.proofs.fields.pair.Tie as tie
+use Rattle.answer_lines.specs.Laws.{spelt-two, digit-small}
+use Rattle.answer_lines.proofs.pair.Statement.{statement}
+use Rattle.answer_lines.proofs.pair.Tie as tie
 
 shared-slice-read-digit : tie.Need-shared-slice-read-digit
 shared-slice-read-digit c = search needs
