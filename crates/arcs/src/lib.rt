@@ -4,12 +4,16 @@ ghost use mathlib.Core.Bool.{_&&_};
 ghost use Rattle.checked.specs.Checked.{numberDue, settled, within};
 ghost use Rattle.vectors.specs.Vectors.{within3};
 ghost use Rattle.vectors.specs.Entries.{vectorDue};
+ghost use lib.ListN.{length};
 ghost use Rattle.boxes.specs.Boxes.{widenedDue, outcome, Lent};
+ghost use Rattle.polylines.specs.Rows.{numberOf, partOf, Drawn};
+ghost use Rattle.arcs.specs.Inner.{innerPointsDue};
 ghost use Rattle.arcs.specs.Entries.{arcDue, arcWithin, endsWithin, reversedDue, sweepDue, atDue, extendDue};
 use boxes::Bounds;
 use boxes::Outcome;
 use boxes::Widened;
 use checked::BAD_BOX_OR_SUMS;
+use checked::BAD_TOLERANCE;
 use checked::Number;
 use checked::OUT_OF_RANGE;
 use checked::is_within;
@@ -19,6 +23,7 @@ use vectors::is_within3;
 
 pub mod extremes;
 pub mod formula;
+pub mod inner;
 
 // An arc counterclockwise about `axis`, a unit vector, around `center`.
 pub struct Arc {
@@ -31,6 +36,24 @@ pub struct Arc {
 pub struct CheckedArc {
     pub refusal: u8,
     pub value: Arc,
+}
+
+// An arc's sweep, and into how many chords it is cut.
+pub struct Cut {
+    pub turn: f64,
+    pub chords: u16,
+}
+
+// A cut, with the refusal that its computation met first; 0 is none.
+pub struct CheckedCut {
+    pub refusal: u8,
+    pub value: Cut,
+}
+
+// What a call on a lent row answers: the refusal's number or 0, and how many points are written.
+pub struct Written {
+    pub refusal: u8,
+    pub points: u16,
 }
 
 // The answer of an entry whose result is an arc.
@@ -136,5 +159,61 @@ impl Arc {
         let end = self.outcome(from, to, *bounds);
         *bounds = end.bounds;
         end.number
+    }
+
+    fn chord_within(self, from: Vec3, to: Vec3, chord: f64) -> bool
+        ensures { λ r. ⌜ r ≡ (endsWithin self from to && within chord) ⌝ }
+    {
+        self.ends_within(from, to) & is_within(chord)
+    }
+
+    // The points of the arc from one point to another for drawing, both ends excluded, at most `chord` off it (within 12 to 64 chords
+    // a turn): three numbers each from the row's start. A refusal leaves the row as it was.
+    pub fn write_inner_points(self, from: Vec3, to: Vec3, chord: f64, row: &mut [f64]) -> Written
+        ensures { λ r. ⌜ Drawn (innerPointsDue self from to chord (length (now (row .entry)))) (now (row .entry)) (now (row .exit)) (r .refusal) (r .points) ⌝ }
+    {
+        if self.chord_within(from, to, chord) {
+            if chord < 0.0 {
+                Written {
+                    refusal: BAD_TOLERANCE,
+                    points: 0,
+                }
+            } else {
+                let c = inner::cut_up(self, from, to, chord);
+                let k = c.value;
+                let r = c.refusal;
+                if r == 0 {
+                    inner::write_points(self, from, k, &mut *row)
+                } else {
+                    Written {
+                        refusal: r,
+                        points: 0,
+                    }
+                }
+            }
+        } else {
+            Written {
+                refusal: OUT_OF_RANGE,
+                points: 0,
+            }
+        }
+    }
+
+    // The same; the answer is the written part of the row, empty where it is refused, and the refusal's number or 0 goes to `refusal`.
+    pub fn inner_points<'a>(
+        self,
+        from: Vec3,
+        to: Vec3,
+        chord: f64,
+        row: &'a mut [f64],
+        refusal: &mut u8,
+    ) -> &'a mut [f64]
+        ensures part { λ r. ⌜ now r ≡ partOf (innerPointsDue self from to chord (length (now (row .entry)))) ⌝ }
+        ensures number { λ _. ⌜ now (refusal .exit) ≡ numberOf (innerPointsDue self from to chord (length (now (row .entry)))) ⌝ }
+    {
+        let w = self.write_inner_points(from, to, chord, &mut *row);
+        *refusal = w.refusal;
+        let n = 3 * (w.points as usize);
+        &mut row[..n]
     }
 }

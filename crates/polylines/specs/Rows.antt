@@ -1,0 +1,54 @@
+-- Points one after the other, and a lent row that takes them.
+use Prim.Native.Nat.{ℕ, zero, suc, _*_}
+use mathlib.Core.Path.{_≡_}
+use mathlib.Core.List.{List, [], _∷_, _++_}
+use lib.Dec.{leb}
+use lib.ListN.{length, drop}
+use lib.Ieee.{Float}
+use Rattle.checked.specs.Refusals.{ROW-TOO-SHORT}
+use Rattle.checked.specs.Checked.{Checked, first, _>>=_, given, Due, due, refused, unless}
+use Rattle.vectors.specs.declared.Vec3.{Vec3}
+
+-- what f gives at 1, at 2 and so on up to m, in this order
+unfoldable pub upTo : {A : Type 0} → (ℕ → Checked A) → ℕ → Checked (List A)
+upTo f zero = given []
+upTo f (suc m) = do
+  ps ← upTo f m
+  p ← f (suc m)
+  given (ps ++ p ∷ [])
+
+-- the points' numbers, three each
+unfoldable pub flat : List Vec3 → List Float
+flat [] = []
+flat (p ∷ ps) = p .x ∷ p .y ∷ p .z ∷ flat ps
+
+-- a row of `room` numbers must hold m points, three numbers each
+abbrev pub fits : ℕ → ℕ → Due (List Vec3) → Due (List Vec3)
+fits room m rest = unless ROW-TOO-SHORT (leb (3 * m) room) rest
+
+-- what is due once something else is
+abbrev pub after : {A B : Type 0} → Due A → (A → Due B) → Due B
+after (due a) rest = rest a
+after (refused n) rest = refused n
+
+-- ---- what a call on a lent row leaves
+-- the number of the refusal, 0 for none
+abbrev pub numberOf : {A : Type 0} → Due A → ℕ
+numberOf (due a) = 0
+numberOf (refused n) = n
+
+-- the written part of the row
+abbrev pub partOf : Due (List Vec3) → List Float
+partOf (due ps) = flat ps
+partOf (refused n) = []
+
+-- the row: the points from its start, and then what stood there; unchanged by a refusal
+abbrev pub rowAfter : Due (List Vec3) → List Float → List Float
+rowAfter (due ps) row = flat ps ++ drop (length (flat ps)) row
+rowAfter (refused n) row = row
+
+-- what a call answers, its refusal's number or 0 and how many points are written, and what it leaves of the row
+pub record Drawn (d : Due (List Vec3)) (row left : List Float) (refusal points : ℕ) : Type 0 where
+  pub number : refusal ≡ numberOf d
+  pub part : 3 * points ≡ length (partOf d)
+  pub rest : left ≡ rowAfter d row

@@ -1,0 +1,105 @@
+// Points of a circle at even angles, written to a lent row.
+ghost use mathlib.Core.Path.{_≡_};
+ghost use mathlib.Core.List.{_++_};
+ghost use Prim.Native.Nat.{_*_, _≤_};
+ghost use lib.ListN.{length, drop};
+ghost use Rattle.polylines.specs.Rows.{upTo, flat, numberOf, rowAfter};
+ghost use Rattle.polylines.specs.Rims.{rimC, rimAtC, allRefusal, allDue};
+use checked::ROW_TOO_SHORT;
+use checked::earlier;
+use circle::sincos;
+use vectors::CheckedVec3;
+use vectors::Vec3;
+use vectors::formula::noted;
+use vectors::formula::plus;
+use vectors::formula::times;
+
+// A circle and where on it the points start: its centre, the vector from there to the start, and that vector a quarter turn on.
+pub struct Rim {
+    pub center: Vec3,
+    pub start: Vec3,
+    pub quarter: Vec3,
+}
+
+// The point at the angle t.
+fn point(rim: Rim, t: f64) -> CheckedVec3
+    ensures refusal { λ r. ⌜ r .refusal ≡ rimC rim t .refusal ⌝ }
+    ensures value { λ r. ⌜ r .value ≡ rimC rim t .value ⌝ }
+{
+    let s = sincos(t);
+    let c = s.value;
+    let p = plus(
+        plus(rim.center, times(rim.start, c.cos)),
+        times(rim.quarter, c.sin),
+    );
+    CheckedVec3 {
+        refusal: noted(p, s.refusal),
+        value: p,
+    }
+}
+
+// The point k of n on a turn.
+fn point_at(rim: Rim, turn: f64, n: u16, k: u16) -> CheckedVec3
+    ensures refusal { λ r. ⌜ r .refusal ≡ rimAtC rim turn n k .refusal ⌝ }
+    ensures value { λ r. ⌜ r .value ≡ rimAtC rim turn n k .value ⌝ }
+{
+    point(rim, turn * (k as f64) / (n as f64))
+}
+
+// The refusal that the points 1 to m meet first.
+fn noted_all(rim: Rim, turn: f64, n: u16, m: u16) -> u8
+    ensures { λ r. ⌜ r ≡ upTo (rimAtC rim turn n) m .refusal ⌝ }
+{
+    let mut r: u8 = 0;
+    let mut i: u16 = 0;
+    while i < m {
+        i += 1;
+        let p = point_at(rim, turn, n, i);
+        r = earlier(r, p.refusal);
+    }
+    r
+}
+
+// The points 1 to m, written from the row's start.
+fn write_all(row: &mut [f64], rim: Rim, turn: f64, n: u16, m: u16)
+    requires { ⌜ 3 * m ≤ length (now row) ⌝ }
+    ensures { λ _. ⌜ now (row .exit) ≡ flat (upTo (rimAtC rim turn n) m .value) ++ drop (3 * m) (now (row .entry)) ⌝ }
+{
+    let mut i: u16 = 0;
+    while i < m {
+        let at = 3 * (i as usize);
+        i += 1;
+        let p = point_at(rim, turn, n, i);
+        let v = p.value;
+        row[at] = v.x;
+        row[at + 1] = v.y;
+        row[at + 2] = v.z;
+    }
+}
+
+// With no point nothing is refused; else `before`, which every point meets, then their own.
+fn refusal_of_all(before: u8, rim: Rim, turn: f64, n: u16, m: u16) -> u8
+    ensures { λ r. ⌜ r ≡ allRefusal before (rimAtC rim turn n) m ⌝ }
+{
+    if m == 0 {
+        0
+    } else {
+        earlier(before, noted_all(rim, turn, n, m))
+    }
+}
+
+// Writes the points 1 to m of n on a turn and answers 0, or answers the refusal's number and leaves the row as it was. All points are
+// worked out once before the first is written.
+pub fn write(row: &mut [f64], before: u8, rim: Rim, turn: f64, n: u16, m: u16) -> u8
+    ensures number { λ r. ⌜ r ≡ numberOf (allDue before (rimAtC rim turn n) m (length (now (row .entry)))) ⌝ }
+    ensures row { λ _. ⌜ now (row .exit) ≡ rowAfter (allDue before (rimAtC rim turn n) m (length (now (row .entry)))) (now (row .entry)) ⌝ }
+{
+    if row.len() < 3 * (m as usize) {
+        return ROW_TOO_SHORT;
+    }
+    let r = refusal_of_all(before, rim, turn, n, m);
+    if r == 0 {
+        write_all(&mut *row, rim, turn, n, m);
+    }
+    r
+}
