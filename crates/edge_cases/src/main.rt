@@ -288,7 +288,16 @@ fn tell_all(name: &[u8], files: Files, from: usize, to: usize) {
     run.tell(name, n);
 }
 
-// The line of an end alone, of no byte, of one circle and of two.
+// A file of one circle of radius 0: the coordinates are those of both corners.
+fn tell_spot(name: &[u8], x: f64, y: f64, z: f64) {
+    tell(name, File::begun().spot(x, y, z).end());
+}
+
+// Each of an arc's thirteen numbers at one pattern.
+fn tell_numbers(name: &[u8], pattern: u64) {
+    tell_all(name, Files::Number(pattern), 1, 14);
+}
+
 fn whole_files() {
     let none = File::begun();
     tell(b"no byte", none);
@@ -297,29 +306,17 @@ fn whole_files() {
     tell(b"two arcs", none.half().spot(1.0, 2.0, 3.0).end());
 }
 
-// Corners in thousandths.
+// Corners in thousandths, and corners that are too far out to print.
 fn corners() {
-    let none = File::begun();
-    tell(b"corner 1000000", none.spot(1000000.0, 0.0, 0.0).end());
-    tell(b"corner 1000001", none.spot(1000001.0, 0.0, 0.0).end());
-    tell(b"corner -1000000", none.spot(0.0, -1000000.0, 0.0).end());
-    tell(b"corner -1000001", none.spot(0.0, -1000001.0, 0.0).end());
-    tell(
-        b"corner 1000001, second of two",
-        none.half().spot(0.0, 0.0, 1000001.0).end(),
-    );
-    tell(
-        b"2^-12, 0, -2^-12",
-        none.spot(0.000244140625, 0.0, -0.000244140625).end(),
-    );
-    tell(
-        b"0.0625, -0, -0.0625",
-        none.spot(0.0625, -0.0, -0.0625).end(),
-    );
-    tell(
-        b"1.0005, 0.9995, -1.0005",
-        none.spot(1.0005, 0.9995, -1.0005).end(),
-    );
+    let two = File::begun().half().spot(0.0, 0.0, 1000001.0);
+    tell_spot(b"2^-12, 0, -2^-12", 0.000244140625, 0.0, -0.000244140625);
+    tell_spot(b"0.0625, -0, -0.0625", 0.0625, -0.0, -0.0625);
+    tell_spot(b"1.0005, 0.9995, -1.0005", 1.0005, 0.9995, -1.0005);
+    tell_spot(b"1000000", 1000000.0, 0.0, 0.0);
+    tell_spot(b"1000001", 1000001.0, 0.0, 0.0);
+    tell_spot(b"-1000000", 0.0, -1000000.0, 0.0);
+    tell_spot(b"-1000001", 0.0, -1000001.0, 0.0);
+    tell(b"1000001, second of two arcs", two.end());
 }
 
 // Bytes after the end.
@@ -330,7 +327,7 @@ fn after_end() {
     tell(b"a byte after an end alone", none.end().byte(0));
     tell(b"an end after the end", none.half().end().end());
     tell(b"an arc after the end", none.end().half());
-    tell(b"corner 1000001, a byte after the end", far.end().byte(0));
+    tell(b"1000001, a byte after the end", far.end().byte(0));
 }
 
 // The bytes of a record are tried before its numbers, and the first refusal ends the reading.
@@ -351,8 +348,8 @@ fn first_refusals() {
     );
     tell(b"an arc, then NaN", none.half().head(1, 104).nans().end());
     tell(b"an arc, then tag 2", none.half().head(2, 104).half_body());
-    tell(b"corner 1000001, then NaN", far.head(1, 104).nans().end());
-    tell(b"corner 1000001 and no end", far);
+    tell(b"1000001, then NaN", far.head(1, 104).nans().end());
+    tell(b"1000001 and no end", far);
 }
 
 fn main() {
@@ -366,46 +363,12 @@ fn main() {
     tell_all(b"an end with tag", Files::EndTag, 0, 256);
     tell_all(b"an arc with length", Files::ArcLength, 0, 65536);
     tell_all(b"an end with length", Files::EndLength, 0, 65536);
-    tell_all(
-        b"NaN as number",
-        Files::Number(0x7ff8_0000_0000_0000),
-        1,
-        14,
-    );
-    tell_all(
-        b"+infinity as number",
-        Files::Number(0x7ff0_0000_0000_0000),
-        1,
-        14,
-    );
-    tell_all(
-        b"-infinity as number",
-        Files::Number(0xfff0_0000_0000_0000),
-        1,
-        14,
-    );
-    tell_all(
-        b"the next f64 above 1048576 as number",
-        Files::Number(0x4130_0000_0000_0001),
-        1,
-        14,
-    );
-    tell_all(
-        b"the next f64 below -1048576 as number",
-        Files::Number(0xc130_0000_0000_0001),
-        1,
-        14,
-    );
-    tell_all(
-        b"1048576 as number",
-        Files::Number(0x4130_0000_0000_0000),
-        1,
-        14,
-    );
-    tell_all(
-        b"-1048576 as number",
-        Files::Number(0xc130_0000_0000_0000),
-        1,
-        14,
-    );
+    tell_numbers(b"NaN as number", 0x7ff8_0000_0000_0000);
+    tell_numbers(b"signalling NaN as number", 0xfff0_0000_0000_0001);
+    tell_numbers(b"+infinity as number", 0x7ff0_0000_0000_0000);
+    tell_numbers(b"-infinity as number", 0xfff0_0000_0000_0000);
+    tell_numbers(b"next above 1048576 as number", 0x4130_0000_0000_0001);
+    tell_numbers(b"next below -1048576 as number", 0xc130_0000_0000_0001);
+    tell_numbers(b"1048576 as number", 0x4130_0000_0000_0000);
+    tell_numbers(b"-1048576 as number", 0xc130_0000_0000_0000);
 }
