@@ -1,8 +1,9 @@
 -- How records and answers pass to a caller in another language.
 use Prim.Native.Nat.{ℕ}
-use mathlib.Core.Bool.{Bool}
+use mathlib.Core.Bool.{Bool, cond}
 use mathlib.Core.List.{List}
-use lib.ListN.{getD, set}
+use lib.Dec.{eqb}
+use lib.ListN.{getD, set, length}
 use lib.Ieee.{Float, nan}
 use Rattle.checked.specs.Checked.{Due, due, refused}
 use Rattle.circle.specs.declared.Sines.{Sines}
@@ -12,6 +13,7 @@ use Rattle.motions.specs.declared.Rigid.{Rigid}
 use Rattle.profiles.specs.declared.ProfileArc.{ProfileArc}
 use Rattle.arcs.specs.declared.Arc.{Arc}
 use Rattle.boxes.specs.declared.Bounds.{Bounds}
+use Rattle.polylines.specs.Rows as Rows
 
 -- ---- records as arrays
 abbrev pub vec2 : List Float → Vec2
@@ -78,3 +80,7 @@ after12 l (refused n) = l
 unfoldable pub afterIndex : List ℕ → Due ℕ → List ℕ
 afterIndex l (due k) = set l 0 k
 afterIndex l (refused n) = l
+
+-- how many numbers were written to a row
+unfoldable pub afterCount : List ℕ → Due (List Vec3) → List ℕ
+afterCount l d = cond (eqb (Rows.numberOf d) 0) (set l 0 (length (Rows.partOf d))) l

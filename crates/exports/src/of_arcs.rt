@@ -4,7 +4,10 @@ ghost use Rattle.directions.specs.Directions as Directions;
 ghost use Rattle.profiles.specs.Profiles as Profiles;
 ghost use Rattle.chords.specs.Chords as Chords;
 ghost use Rattle.arcs.specs.Entries as Arcs;
-ghost use Rattle.exports.specs.Records.{vec2, vec3, arc, bounds, profileArc, numberOf, after1, after3, after6, after7};
+ghost use lib.ListN.{length};
+ghost use Rattle.arcs.specs.Inner.{innerPointsDue};
+ghost use Rattle.polylines.specs.Rows as Rows;
+ghost use Rattle.exports.specs.Records.{vec2, vec3, arc, bounds, profileArc, numberOf, after1, after3, after6, after7, afterCount};
 use crate::records::arc_of;
 use crate::records::store_arc;
 use crate::records::store_bounds;
@@ -110,4 +113,30 @@ pub extern "C" fn jr_per_turn(radius: f64, chord: f64, out: &mut [f64; 1]) -> u3
     ensures out { λ _. ⌜ now (out .exit) ≡ after1 (now (out .entry)) (Chords.perTurnDue radius chord) ⌝ }
 {
     store_number(chords::per_turn(radius, chord), out)
+}
+
+// How many numbers were written goes to `written`.
+#[no_mangle]
+pub extern "C" fn jr_inner_points(
+    a: &[f64; 7],
+    from: &[f64; 3],
+    to: &[f64; 3],
+    chord: f64,
+    row: &mut [f64],
+    written: &mut [u64; 1],
+) -> u32
+    ensures number { λ r. ⌜ r ≡ Rows.numberOf (innerPointsDue (arc (now (a .entry))) (vec3 (now (from .entry))) (vec3 (now (to .entry))) chord (length (now (row .entry)))) ⌝ }
+    ensures row { λ _. ⌜ now (row .exit) ≡ Rows.rowAfter (innerPointsDue (arc (now (a .entry))) (vec3 (now (from .entry))) (vec3 (now (to .entry))) chord (length (now (row .entry)))) (now (row .entry)) ⌝ }
+    ensures written { λ _. ⌜ now (written .exit) ≡ afterCount (now (written .entry)) (innerPointsDue (arc (now (a .entry))) (vec3 (now (from .entry))) (vec3 (now (to .entry))) chord (length (now (row .entry)))) ⌝ }
+{
+    let c = arc_of(a);
+    let u = vec3_of(from);
+    let v = vec3_of(to);
+    let w = c.write_inner_points(u, v, chord, &mut *row);
+    let r = w.refusal;
+    if r == 0 {
+        written[0] = 3 * (w.points as u64);
+        return 0;
+    }
+    r as u32
 }

@@ -1,0 +1,77 @@
+use Prim.Native.Nat.{ℕ, _*_}
+use mathlib.Core.Path.{_≡_, refl, sym, _∙_, ap}
+use mathlib.Core.List.{List}
+use lib.ListN.{length, set}
+use borrow.Author.Tests.{eq-eqb, ne-eqb}
+use Rattle.checked.specs.Checked.{Due}
+use Rattle.vectors.specs.declared.Vec3.{Vec3}
+use Rattle.polylines.specs.Rows.{numberOf, partOf}
+use Rattle.exports.specs.Records.{afterCount}
+use borrow.Author.Needs.{needs}
+use Rattle.exports.proofs.of_arcs.jr_inner_points.Statement.{statement}
+use Rattle.exports.proofs.of_arcs.jr_inner_points.Tie as tie
+
+counted : (l : List ℕ) (d : Due (List Vec3)) (r points : ℕ) → r ≡ numberOf d → r ≡ 0 → 3 * points ≡ length (partOf d) → set l 0 (3 * points) ≡ afterCount l d
+unfolding afterCount
+counted l d r points n z e = rw (eq-eqb (numberOf d) 0 (sym n ∙ z)) (ap (set l 0) e)
+
+uncounted : (l : List ℕ) (d : Due (List Vec3)) (r : ℕ) → r ≡ numberOf d → (r ≡ 0 → ⊥) → l ≡ afterCount l d
+unfolding afterCount
+uncounted l d r n f = rw (ne-eqb (numberOf d) 0 (λ h. f (n ∙ h)))
+
+arc-of-requires : tie.Need-arc-of-requires
+arc-of-requires c κs = search needs
+
+vec3-of-requires : tie.Need-vec3-of-requires
+vec3-of-requires c κs = search needs
+
+vec3-of-requires-2 : tie.Need-vec3-of-requires-2
+vec3-of-requires-2 c κs = search needs
+
+write-inner-points-requires : tie.Need-write-inner-points-requires
+write-inner-points-requires c κs = search needs
+
+cast-written : tie.Need-cast-written
+cast-written c = search needs
+
+mul-written : tie.Need-mul-written
+mul-written c = search needs
+
+element-write-written : tie.Need-element-write-written
+element-write-written c = search needs
+
+same-length : tie.Need-same-length
+same-length c = search needs
+
+returns : tie.Need-returns
+returns c =
+    let d = simp (c .before .before .before .before .before .before .before .before .arc-of .ensures, c .before .before .before .before .before .before .before .vec3-of .ensures, c .before .before .before .before .before .before .vec3-of2 .ensures) at (c .before .before .before .before .write-inner-points .ensures) in
+    (sym (c .before .if1 .taken) ∙ d .number, (d .rest, counted _ _ _ _ (d .number) (c .before .if1 .taken) (d .part)))
+
+cast-result : tie.Need-cast-result
+cast-result c = search needs
+
+same-length-2 : tie.Need-same-length-2
+same-length-2 c = search needs
+
+returns-2 : tie.Need-returns-2
+returns-2 c =
+    let d = simp (c .before .before .before .before .before .before .before .arc-of .ensures, c .before .before .before .before .before .before .vec3-of .ensures, c .before .before .before .before .before .vec3-of2 .ensures) at (c .before .before .before .write-inner-points .ensures) in
+    (d .number, (d .rest, uncounted _ _ _ (d .number) (c .if1 .left)))
+
+pub jr-inner-points-spec : {M : Type 1} → statement M
+jr-inner-points-spec =
+    tie.close
+    (tie.spec
+    arc-of-requires
+    vec3-of-requires
+    vec3-of-requires-2
+    write-inner-points-requires
+    cast-written
+    mul-written
+    element-write-written
+    same-length
+    returns
+    cast-result
+    same-length-2
+    returns-2)
