@@ -1,12 +1,12 @@
 -- A turn of the loop that puts digits before those that are there. Assumes nothing.
-use mathlib.Core.Path.{_≡_, refl, sym, ap, _∙_, subst}
+use mathlib.Core.Path.{_≡_, sym, ap, _∙_, subst}
 use mathlib.Core.Logic.{_≢_}
-use mathlib.Core.List.{List, [], _∷_, _++_}
+use mathlib.Core.List.{List, _∷_, _++_}
 use Prim.Native.Nat.{ℕ, zero, suc, _+_, _-_, _/_, _%_, _^_, _≤_, _<_}
 use native.Mathlib.Omega.{arith}
 use lib.ListN.{length, drop, set, drop-of-length-le}
 use lib.Seq.{drop-cons, drop-set-lt, getD-set-same, lt-length-set, append-snoc}
-use Rattle.decimals.specs.Digits.{glyph, spelled, digits}
+use Rattle.decimals.specs.Digits.{glyph, digits}
 use Rattle.decimals.specs.DigitLaws.{ahead, ahead-some, fewer, spelled-suc, digits-are}
 
 -- what stands from a place on, after a store there

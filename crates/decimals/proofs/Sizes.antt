@@ -1,14 +1,13 @@
 -- The thousandths of a number that is given by the fields of its bit pattern. Assumes nothing.
 use mathlib.Core.Path.{_≡_, refl, sym, ap, _∙_, subst}
 use mathlib.Core.Logic.{_≢_}
-use mathlib.Core.Bool.{Bool, true, false, not, cond}
+use mathlib.Core.Bool.{Bool, true, false, cond}
 use Prim.Native.Nat.{ℕ, zero, suc, _+_, _-_, _*_, _/_, _%_, _^_, _≤_, _<_}
-use native.Mathlib.Nat.{le-trans, le-of-eq, lt-of-lt-of-le, lt-of-le-of-lt, le-add-right, mul-comm, mul-assoc, mul-left-comm, mul-one, mul-le-mul-left, mul-le-mul-right, mul-lt-mul-of-pos-right, add-div-right, div-div-eq-div-mul, div-eq-of-lt, le-div-iff-mul-le}
+use native.Mathlib.Nat.{le-trans, lt-of-lt-of-le, le-add-right, mul-comm, mul-assoc, mul-left-comm, mul-one, mul-le-mul-left, mul-le-mul-right, mul-lt-mul-of-pos-right, add-div-right, div-div-eq-div-mul, div-eq-of-lt, le-div-iff-mul-le}
 use native.Mathlib.Omega.{arith}
 use lib.Dec.{T, leb, eqb, eqb→eq, not-T, lit≤}
 use borrow.Author.Tests.{le-leb, lt-leb}
 use lib.Pow.{pow-add, pow-pos, pow-mono}
-use lib.IntN.{ℤ}
 use lib.Ieee.{Float, nan, inf, fin, binary64, up, down, odd, ofFields, ofBits, toBits, fits}
 use lib.Ieee.Fits.{down-pos}
 use lib.Ieee.Bits.{ofBits-toBits, cond-no}

@@ -1,7 +1,7 @@
 -- What the decimal digits of a number are: digits, which read back as the number, and of which the first is not 0 unless the number is. Assumes nothing.
 use mathlib.Core.Path.{_≡_, refl, sym, ap, _∙_, subst}
 use mathlib.Core.Logic.{_≢_}
-use mathlib.Core.Bool.{Bool, true, false, not, cond}
+use mathlib.Core.Bool.{Bool, true, false, cond}
 use mathlib.Core.List.{List, [], _∷_, _++_}
 use Prim.Native.Nat.{ℕ, zero, suc, _+_, _-_, _*_, _/_, _%_, _^_, _≤_, _<_}
 use native.Mathlib.Nat.{lt-of-lt-of-le, le-trans, le-suc, pow-suc, pow-le-pow-left, pow-le-pow-right, div-lt-iff-lt-mul}

@@ -2,7 +2,7 @@
 use Prim.Native.Nat.{ℕ}
 use mathlib.Core.Path.{_≡_, sym, ap, _∙_}
 use mathlib.Core.Bool.{Bool, true, false, cond}
-use mathlib.Core.List.{List, []}
+use mathlib.Core.List.{[]}
 use Rattle.checked.specs.Refusals.{MALFORMED-FILE}
 use Rattle.edge_lines.specs.Lines.{emptyLine, refusedLine, boxLine}
 use Rattle.edge_file.specs.declared.Status.{Status}

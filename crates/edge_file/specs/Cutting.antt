@@ -1,19 +1,18 @@
 -- A file is read record by record: `stepped` is the law of one step, `left-over` that of what is left. Then stepping through the records of a file gives the
 -- file's line (`by-steps`), and so does reading it piece by piece, whatever the pieces are (`by-pieces`). Assumes nothing.
-use Prim.Native.Nat.{ℕ, zero, suc, _+_, _-_, _≤_, _<_}
-use mathlib.Core.Path.{_≡_, refl, sym, ap, _∙_, subst}
-use mathlib.Core.Bool.{Bool, true, false, not, cond}
+use Prim.Native.Nat.{ℕ, zero, suc, _+_, _≤_, _<_}
+use mathlib.Core.Path.{_≡_, refl, sym, ap, _∙_}
+use mathlib.Core.Bool.{Bool, true, false, not}
 use mathlib.Core.List.{List, [], _∷_, _++_, append-assoc, append-nil}
 use native.Mathlib.Omega.{arith}
 use lib.Dec.{T, ltb, eqb, ltb→lt, nltb→le, eqb→eq, T-not}
 use lib.Ieee.Fits.{eq→eqb}
-use lib.ListN.{length, take, drop, length-append, length-drop, drop-of-length-le}
-use lib.Seq.{take-length, drop-length, drop-append-le}
+use lib.ListN.{length, take, drop, length-append, length-drop}
+use lib.Seq.{drop-append-le}
 use Rattle.checked.specs.Refusals.{MALFORMED-FILE}
 use Rattle.checked.specs.Checked.{Due, due, refused}
 use Rattle.boxes.specs.declared.Bounds.{Bounds}
 use Rattle.edge_lines.specs.Lines.{refusedLine}
-use Rattle.edge_records.specs.declared.Edge.{Edge}
 use Rattle.edge_records.specs.declared.Record.{Record}
 use Rattle.edge_records.specs.declared.Record.the-variants as first
 use Rattle.edge_records.specs.Records.{recordOf, sizeOf}

@@ -1,5 +1,5 @@
 -- Texts that are put before what stands in a buffer. Assumes nothing.
-use mathlib.Core.Path.{_≡_, refl, sym, ap, _∙_, subst}
+use mathlib.Core.Path.{_≡_, refl, sym, ap, _∙_}
 use mathlib.Core.Bool.{Bool, true, false, _&&_, true≢false}
 use mathlib.Core.List.{List, [], _∷_, _++_, append-assoc}
 use Prim.Native.Nat.{ℕ, zero, suc, _+_, _-_, _≤_, _<_}
@@ -9,7 +9,7 @@ use lib.Seq.{drop-cons, take-all}
 use lib.Dec.{ltb}
 use lib.IntN.{ℤ}
 use borrow.Author.Tests.{ltb-true, ltb-false}
-use Rattle.checked.specs.Checked.{Due, due, settled, first}
+use Rattle.checked.specs.Checked.{due, settled, first}
 use Rattle.decimals.specs.Digits.{digits, numeral}
 use Rattle.decimals.specs.Thousandths.{signed}
 use Rattle.decimals.proofs.Places.{drop-set}

@@ -1,18 +1,15 @@
 -- A file is cut where its records end: the first record is the same with and without the bytes that follow it. Assumes nothing.
-use mathlib.Core.Path.{_≡_, refl, sym, ap, _∙_, subst}
+use mathlib.Core.Path.{_≡_, refl, sym, ap, _∙_}
 use mathlib.Core.Bool.{Bool, true, false, cond, _&&_, true≢false}
 use mathlib.Core.List.{List, [], _∷_, _++_}
-use Prim.Native.Nat.{ℕ, zero, suc, _+_, _≤_, _<_}
+use Prim.Native.Nat.{ℕ, suc, _+_, _≤_, _<_}
 use native.Mathlib.Omega.{arith}
 use lib.Dec.{ltb, eqb}
-use lib.ListN.{length, take, drop, length-append, length-take, take-append-drop}
+use lib.ListN.{length, take, drop, length-append, take-append-drop}
 use lib.Seq.{take-append-le, drop-append-le, length-take-le}
-use borrow.Author.Tests.{lt-ltb, le-ltb, ltb-true, ltb-false}
-use lib.Ieee.{Float}
+use borrow.Author.Tests.{le-ltb, ltb-false}
 use Rattle.checked.specs.Patterns.{of-bits}
-use Rattle.vectors.specs.declared.Vec3.{Vec3}
 use Rattle.edge_records.specs.Records.{lowFirst, numberAt, pointAt, headOf, cut, kindOf, edgeOf, ofKind, recordOf, sizeOfKind, sizeOf}
-use Rattle.edge_records.specs.declared.Edge.{Edge}
 use Rattle.edge_records.specs.declared.Kind.{Kind}
 use Rattle.edge_records.specs.declared.Kind.the-variants as kind
 use Rattle.edge_records.specs.declared.Record.{Record}

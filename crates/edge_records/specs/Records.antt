@@ -1,6 +1,6 @@
 -- The records of an edge file. A record is a tag byte, a length of two bytes, low byte first, and as many bytes as the length says.
 use Prim.Native.Nat.{ℕ, _+_, _*_}
-use mathlib.Core.Bool.{Bool, cond, _&&_}
+use mathlib.Core.Bool.{cond, _&&_}
 use mathlib.Core.List.{List, [], _∷_}
 use lib.Dec.{ltb, eqb}
 use lib.Ieee.{Float}

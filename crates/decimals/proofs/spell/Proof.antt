@@ -2,12 +2,12 @@
 -- Assumes nothing.
 use mathlib.Core.Path.{_≡_, _∙_, sym, ap}
 use mathlib.Core.List.{_++_}
-use Prim.Native.Nat.{_+_, _-_, _/_, _^_, _≤_, _<_}
+use Prim.Native.Nat.{_+_, _-_, _^_, _≤_, _<_}
 use native.Mathlib.Omega.{arith}
 use lib.ListN.{length, drop, length-set}
 use borrow.Author.Needs.{needs}
 use Rattle.decimals.specs.Digits.{digits}
-use Rattle.decimals.specs.DigitLaws.{ahead, ahead-zero, fewer}
+use Rattle.decimals.specs.DigitLaws.{ahead, ahead-zero}
 use Rattle.decimals.proofs.Places.{last-digit, next-digit, room, room-left}
 use Rattle.decimals.proofs.spell.Statement.{statement}
 use Rattle.decimals.proofs.spell.Tie as tie

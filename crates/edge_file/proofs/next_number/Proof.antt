@@ -2,7 +2,6 @@
 use native.Mathlib.Omega.{arith}
 use borrow.Author.Needs.{needs}
 use Rattle.edge_file.specs.EdgeFile.{next}
-use borrow.Author.Tests.{lt-ltb, le-ltb, le-leb, lt-leb}
 use Rattle.edge_file.proofs.next_number.Statement.{statement}
 use Rattle.edge_file.proofs.next_number.Tie as tie
 

@@ -1,8 +1,7 @@
 -- `edge_lines::put_corner` meets its contract. Assumes nothing.
 use mathlib.Core.Path.{_∙_, ap, ap₂}
-use native.Mathlib.Omega.{arith}
 use lib.ListN.{drop}
-use Rattle.checked.specs.Checked.{settled, first}
+use Rattle.checked.specs.Checked.{settled}
 use Rattle.edge_lines.specs.Lines.{spaced}
 use Rattle.edge_lines.proofs.Before.{settles}
 use borrow.Author.Needs.{needs}

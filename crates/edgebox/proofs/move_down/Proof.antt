@@ -2,7 +2,7 @@
 use mathlib.Core.Path.{_≡_, _∙_, sym, ap, refl}
 use Prim.Native.Nat.{_-_, _≤_}
 use native.Mathlib.Omega.{arith}
-use lib.ListN.{length, take, drop}
+use lib.ListN.{take, drop}
 use borrow.Author.Needs.{needs}
 use Rattle.edgebox.proofs.Moves.{drop-take, Moved, moved-none, moved-more}
 use Rattle.edgebox.proofs.move_down.Statement.{statement}

@@ -1,6 +1,6 @@
 -- `edgebox::read_all` meets its contract. The loop's invariant: the reading and what is kept stand for the bytes that came in. The measure is how many
 -- reads are left. Assumes nothing.
-use mathlib.Core.Path.{_≡_, _∙_, refl}
+use mathlib.Core.Path.{_≡_, refl}
 use Prim.Native.Nat.{_<_}
 use native.Mathlib.Omega.{arith}
 use lib.ListN.{length, take}
