@@ -4,11 +4,17 @@ use Prim.Native.String.{String}
 use mathlib.Core.Path.{_≡_, refl}
 use mathlib.Core.Bool.{Bool, true, false}
 use mathlib.Core.List.{List, [], _∷_, _++_}
-use lib.Ieee.{Float, binary64, add, sub, mul, div, neg, lt, le, eq, isNan, ofBits, toBits}
-use Rattle.checked.specs.Checked.{Due, due, first, isFinite, nine, within, settled}
+use lib.ListN.{length}
+use lib.Ieee.{Float, binary64, add, sub, mul, div, neg, lt, le, eq, isNan, ofBits, toBits, ofInt, toUnsigned, toSigned}
+use Rattle.checked.specs.Checked.{Due, due, refused, first, isFinite, nine, eight, within, settled}
 use Rattle.checked.specs.Patterns.{bits}
 use Rattle.words.specs.Words.{fabs, signed, choose}
 use Rattle.rounding.specs.Root.{sqrt}
+use Rattle.rounding.specs.Whole.{ceil}
+use Rattle.circle.specs.Circle.{secondRound, medium, toFive, toNine, remPio2, turnedSines, sines, sinesOrZeros}
+use Rattle.roots.specs.Roots.{acosFar, acosNear, acos}
+use Rattle.chords.specs.Chords.{quotientC, chordsC, clamped, perTurnC, limitedC, countC}
+use Rattle.polylines.specs.Rows.{upTo}
 use Rattle.arctangent.specs.Arctangent.{reduced, atan, isOne, ratioAngle, angle, atan2}
 use Rattle.order.specs.Least.{negative, least, greatest}
 use Rattle.vectors.specs.declared.Vec2.{Vec2}
@@ -21,7 +27,8 @@ use Rattle.directions.specs.Directions.{lengthC, acrossC}
 use Rattle.angles.specs.Angles.{aheadC, backC}
 use Rattle.profiles.specs.Profiles.{apartC, turnC, turnDue}
 use Rattle.arcs.specs.declared.Arc.{Arc}
-use Rattle.arcs.specs.Arcs.{reversedC, sweepFromC, sweepC}
+use Rattle.arcs.specs.Arcs.{reversedC, sweepFromC, sweepC, spokeC, turnedC, atC}
+use Rattle.arcs.specs.Inner.{cutC, innerC, innersDue, innerPointsDue}
 use Rattle.arcs.specs.Extremes.{sideC, takenC, bothC, extremesC, pointsC}
 use Rattle.arcs.specs.Entries.{arcWithin, endsWithin, reversedDue, sweepDue, extendDue}
 use Rattle.decimals.specs.Thousandths.{signed as signedWhole, thousandths}
@@ -36,6 +43,8 @@ pub data Case : Type 0 where
   reverses : Arc → Arc → Case
   -- the sweep of an arc from one point to another
   sweeps : Arc → Vec3 → Vec3 → Float → Case
+  -- how many inner points an arc from one point to another is drawn with, for a chord and a row long enough
+  draws : Arc → Vec3 → Vec3 → Float → ℕ → Case
   -- the box of an arc from one point to another
   boxed : Arc → Vec3 → Vec3 → Vec3 → Vec3 → Case
   -- the turn of a profile arc
@@ -43,10 +52,16 @@ pub data Case : Type 0 where
   -- the line that is printed of a file
   prints : List ℕ → String → Case
 
+-- how many points are due
+abbrev pub howMany : Due (List Vec3) → Due ℕ
+howMany (due ps) = due (length ps)
+howMany (refused n) = refused n
+
 -- it holds where the definitions compute to it
 abbrev pub Holds : Case → Type 0
 Holds (reverses arc back) = reversedDue arc ≡ due back
 Holds (sweeps arc from to angle) = sweepDue arc from to ≡ due angle
+Holds (draws arc from to chord n) = howMany (innerPointsDue arc from to chord 189) ≡ due n
 Holds (boxed arc from to low high) = extendDue arc from to empty ≡ due (record { low = low; high = high })
 Holds (turns arc a b angle) = turnDue arc a b ≡ due angle
 Holds (prints file line) = lineOf file ≡ bytes line
@@ -114,8 +129,13 @@ pub cases : List Case
 cases =
     reverses A Aʳ
     ∷ sweeps A east east fullTurn
+    ∷ draws A east east five 11
+    ∷ draws A east east zero 63
     ∷ sweeps A east north quarterTurn
+    ∷ draws A east north five 2
+    ∷ draws A east north zero 15
     ∷ sweeps Aʳ east north threeQuarters
+    ∷ draws Aʳ east north five 8
     ∷ boxed A east north origin (space five five zero)
     ∷ boxed A east west (space (neg five) zero zero) (space five five zero)
     ∷ prints (arcRecord A east west ++ endRecord) "box -5000 0 0 5000 5000 0\n"
@@ -124,5 +144,5 @@ cases =
 
 -- every case computes
 pub all-hold : All cases
-unfolding cases add sub mul div neg lt le eq isNan ofBits toBits first isFinite nine within settled fabs signed choose sqrt reduced atan isOne ratioAngle angle atan2 negative least greatest within2 within3 plusC minusC timesC negC crossC dotC lesser greater widened widenedBy numbers free boxCall lengthC acrossC aheadC backC apartC turnC turnDue sweepFromC sweepC sideC takenC bothC extremesC pointsC arcWithin endsWithin sweepDue extendDue reversedC reversedDue inBytes number point arcRecord signedWhole thousandths spelled digits numeral bytes spaced corner emptyLine refusedLine boxLine lowFirst numberAt pointAt headOf cut kindOf edgeOf recordOf next printed ended lineFrom lineOf
-all-hold = (refl, (refl, (refl, (refl, (refl, (refl, (refl, (refl, tt))))))))
+unfolding cases add sub mul div neg lt le eq isNan ofBits toBits first isFinite nine within settled fabs signed choose sqrt reduced atan isOne ratioAngle angle atan2 negative least greatest within2 within3 plusC minusC timesC negC crossC dotC lesser greater widened widenedBy numbers free boxCall lengthC acrossC aheadC backC apartC turnC turnDue sweepFromC sweepC sideC takenC bothC extremesC pointsC arcWithin endsWithin sweepDue extendDue reversedC reversedDue inBytes number point arcRecord signedWhole thousandths spelled digits numeral bytes spaced corner emptyLine refusedLine boxLine lowFirst numberAt pointAt headOf cut kindOf edgeOf recordOf next printed ended lineFrom lineOf ofInt toUnsigned toSigned eight ceil secondRound medium toFive toNine remPio2 turnedSines sines sinesOrZeros acosFar acosNear acos quotientC chordsC clamped perTurnC limitedC countC upTo spokeC turnedC atC cutC innerC innersDue innerPointsDue
+all-hold = (refl, (refl, (refl, (refl, (refl, (refl, (refl, (refl, (refl, (refl, (refl, (refl, (refl, tt)))))))))))))
