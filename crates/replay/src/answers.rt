@@ -10,6 +10,7 @@ use circle::CheckedSines;
 use motions::Motion;
 use motions::Rigid;
 use std::num::wrapping_add_u8;
+use std::num::wrapping_add_usize;
 use vectors::Index;
 use vectors::Vec3;
 use vectors::Vector;
@@ -103,5 +104,28 @@ pub fn is_box(line: &[u8], answer: Widened) -> bool {
             & is_vec3(line, 19, b.low)
             & is_vec3(line, 22, b.high),
         Widened::Refused(r) => is_refused(line, r, 19),
+    }
+}
+
+// The patterns from 16 on are those of the points.
+fn are_points(line: &[u8], points: &[f64]) -> bool {
+    let mut is_same = true;
+    let mut i = 0;
+    while i < points.len() {
+        is_same = is_same & is_pattern(line, wrapping_add_usize(i, 16), points[i]);
+        i += 1;
+    }
+    is_same
+}
+
+// The written part of a row, after how many numbers it has.
+pub fn is_row(line: &[u8], refusal: u8, points: &[f64]) -> bool {
+    let n = points.len();
+    if refusal == 0 {
+        is_due(line, 0, wrapping_add_usize(n, 16))
+            & (pattern(line, 15) == n as u64)
+            & are_points(line, points)
+    } else {
+        is_refused(line, refusal, 15) & (n == 0)
     }
 }

@@ -4,6 +4,7 @@ use crate::answers::is_box;
 use crate::answers::is_index;
 use crate::answers::is_motion;
 use crate::answers::is_number;
+use crate::answers::is_row;
 use crate::answers::is_sines;
 use crate::answers::is_value;
 use crate::answers::is_vector;
@@ -16,13 +17,6 @@ use crate::inputs::vec3;
 use answer_lines::pattern;
 use motions::Rigid;
 use profiles::ProfileArc;
-
-// What came of a line.
-pub enum Verdict {
-    Alike,
-    Different,
-    NotRun,
-}
 
 fn of_numbers(operation: u64, line: &[u8]) -> bool {
     let x = number(line, 0);
@@ -89,27 +83,44 @@ fn of_arcs(operation: u64, line: &[u8]) -> bool {
         23 => is_arc(line, a.reversed()),
         24 => is_number(line, 13, a.sweep(from, to)),
         25 => is_vector(line, 11, a.at(from, number(line, 10))),
+        26 => inner_points(line),
         27 => is_box(line, a.extended(from, to, bounds(line))),
         _ => false,
     }
 }
 
-fn judged(is_alike: bool) -> Verdict {
-    if is_alike {
-        Verdict::Alike
+// The longest row of the list.
+const ROW: usize = 256;
+
+fn is_drawn(line: &[u8], row: &mut [f64]) -> bool {
+    let mut refusal = 0;
+    let part = arc(line).inner_points(
+        vec3(line, 7),
+        vec3(line, 10),
+        number(line, 13),
+        row,
+        &mut refusal,
+    );
+    is_row(line, refusal, part)
+}
+
+fn inner_points(line: &[u8]) -> bool {
+    let mut row = [0.0; ROW];
+    let n = pattern(line, 14);
+    if n <= ROW as u64 {
+        is_drawn(line, &mut row[..n as usize])
     } else {
-        Verdict::Different
+        false
     }
 }
 
-// An operation that has no entry yet is not run; one that nobody knows is a difference.
-pub fn run(operation: u64, line: &[u8]) -> Verdict {
+// Whether the line's answer is that of the entry; an operation that nobody knows is never alike.
+pub fn is_alike(operation: u64, line: &[u8]) -> bool {
     match operation {
-        1..=8 => judged(of_numbers(operation, line)),
-        9..=15 => judged(of_vectors(operation, line)),
-        16..=19 => judged(of_motions(operation, line)),
-        20..=22 => judged(of_turns(operation, line)),
-        26 => Verdict::NotRun,
-        _ => judged(of_arcs(operation, line)),
+        1..=8 => of_numbers(operation, line),
+        9..=15 => of_vectors(operation, line),
+        16..=19 => of_motions(operation, line),
+        20..=22 => of_turns(operation, line),
+        _ => of_arcs(operation, line),
     }
 }

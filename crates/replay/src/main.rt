@@ -1,6 +1,5 @@
 // Runs the list of the Rust's answers against the port: one line for each operation, and one for each call whose answer is another.
 use bytes::scan::find;
-use calls::Verdict;
 use std::num::wrapping_add_u32;
 use std::num::wrapping_add_u64;
 
@@ -13,7 +12,6 @@ mod names;
 struct Tally {
     alike: u64,
     different: u64,
-    not_run: u64,
 }
 
 // What stands after a line: where the next one begins, the line's number, its operation, the tally of that and of all.
@@ -32,27 +30,20 @@ const MOST: u32 = 1_000_000;
 const NONE: Tally = Tally {
     alike: 0,
     different: 0,
-    not_run: 0,
 };
 
 impl Tally {
-    fn with(self, v: Verdict) -> Tally {
-        match v {
-            Verdict::Alike => Tally {
+    fn with(self, is_alike: bool) -> Tally {
+        if is_alike {
+            Tally {
                 alike: wrapping_add_u64(self.alike, 1),
                 different: self.different,
-                not_run: self.not_run,
-            },
-            Verdict::Different => Tally {
+            }
+        } else {
+            Tally {
                 alike: self.alike,
                 different: wrapping_add_u64(self.different, 1),
-                not_run: self.not_run,
-            },
-            Verdict::NotRun => Tally {
-                alike: self.alike,
-                different: self.different,
-                not_run: wrapping_add_u64(self.not_run, 1),
-            },
+            }
         }
     }
 
@@ -61,13 +52,7 @@ impl Tally {
         tell(self.alike);
         say(b" alike, ");
         tell(self.different);
-        say(b" different");
-        if self.not_run > 0 {
-            say(b", ");
-            tell(self.not_run);
-            say(b" not run");
-        }
-        say(b"\n");
+        say(b" different\n");
     }
 }
 
@@ -107,8 +92,8 @@ impl Progress {
         }
     }
 
-    // With a line's verdict.
-    fn with(self, v: Verdict) -> Progress {
+    // With a line that is alike or not.
+    fn with(self, is_alike: bool) -> Progress {
         let here = self.here;
         let all = self.all;
         Progress {
@@ -116,8 +101,8 @@ impl Progress {
             at: self.at,
             line: self.line,
             operation: self.operation,
-            here: here.with(v),
-            all: all.with(v),
+            here: here.with(is_alike),
+            all: all.with(is_alike),
         }
     }
 
@@ -158,17 +143,14 @@ fn is_comment(line: &[u8]) -> bool {
     }
 }
 
-fn ran(line: &[u8], number: u64, operation: u64) -> Verdict {
-    let v = calls::run(operation, line);
-    match v {
-        Verdict::Different => {
-            say(b"different at line ");
-            tell(number);
-            say(b"\n");
-        }
-        Verdict::Alike | Verdict::NotRun => {}
+fn tried(line: &[u8], number: u64, operation: u64) -> bool {
+    let is_alike = calls::is_alike(operation, line);
+    if !is_alike {
+        say(b"different at line ");
+        tell(number);
+        say(b"\n");
     }
-    v
+    is_alike
 }
 
 fn step(line: &[u8], p: Progress) -> Progress {
@@ -177,7 +159,7 @@ fn step(line: &[u8], p: Progress) -> Progress {
     }
     let operation = answer_lines::operation(line);
     let q = p.turned(operation);
-    q.with(ran(line, q.line, operation))
+    q.with(tried(line, q.line, operation))
 }
 
 // One line read and run. What comes after the last newline ends the list.

@@ -2,8 +2,10 @@
 // Arc A has its centre at the origin, the axis (0, 0, 1) and the radius 5.
 use arcs::Arc;
 use checked::BAD_TOLERANCE;
+use checked::NOT_FINITE;
 use checked::Number;
 use checked::OUT_OF_RANGE;
+use checked::ROW_TOO_SHORT;
 use vectors::Vec3;
 
 const LIMIT: f64 = 1048576.0;
@@ -45,16 +47,27 @@ fn chords_of(name: &[u8], expected: Number, radius: f64, chord: f64) {
     trial(name, expected, chords::per_turn(radius, chord));
 }
 
-// The sweep of A to a point on the x axis.
-fn sweep_of(name: &[u8], expected: Number, from: f64, to: f64) {
-    let a = Arc {
+fn arc_a() -> Arc {
+    Arc {
         center: Vec3::ZERO,
         axis: Vec3::new(0.0, 0.0, 1.0),
         radius: 5.0,
-    };
+    }
+}
+
+// The sweep of A from one point of the x axis to another.
+fn sweep_of(name: &[u8], expected: Number, from: f64, to: f64) {
     let p = Vec3::new(from, 0.0, 0.0);
     let q = Vec3::new(to, 0.0, 0.0);
-    trial(name, expected, a.sweep(p, q));
+    trial(name, expected, arc_a().sweep(p, q));
+}
+
+// The refusal of the points inside A from its centre to (5, 0, 0), with chord 0, for a row of some length.
+fn points_from_centre(name: &[u8], expected: u8, row: &mut [f64]) {
+    let to = Vec3::new(5.0, 0.0, 0.0);
+    let mut refusal = 0;
+    arc_a().inner_points(Vec3::ZERO, to, 0.0, row, &mut refusal);
+    trial(name, Number::Refused(expected), Number::Refused(refusal));
 }
 
 // A chord of -0 is one of 0, and a smaller one is refused.
@@ -96,13 +109,28 @@ fn numbers_at_the_limit() {
     );
 }
 
-fn main() {
-    chords_near_zero();
-    numbers_at_the_limit();
+// From its centre A has a sweep, and 63 points are due, of which none can be worked out; a row that is too short for them is refused first.
+fn from_the_centre() {
     sweep_of(
         b"sweep of A from its centre to (5, 0, 0)",
         Number::Value(FULL_TURN),
         0.0,
         5.0,
     );
+    points_from_centre(
+        b"its inner points with chord 0 in a row of 189",
+        NOT_FINITE,
+        &mut [0.0; 189],
+    );
+    points_from_centre(
+        b"its inner points with chord 0 in a row of 188",
+        ROW_TOO_SHORT,
+        &mut [0.0; 188],
+    );
+}
+
+fn main() {
+    chords_near_zero();
+    numbers_at_the_limit();
+    from_the_centre();
 }
