@@ -5,8 +5,8 @@ use mathlib.Core.Bool.{Bool, true, false}
 use mathlib.Core.List.{List, [], _∷_, _++_, append-assoc}
 use native.Mathlib.Omega.{arith}
 use native.Mathlib.Numerals.{add-one}
-use lib.ListN.{length, take, drop, set, length-append, length-drop}
-use lib.Seq.{drop-drop, take-at, drop-at, sets-eq}
+use lib.ListN.{length, take, drop, set, getD, length-append, length-drop}
+use lib.Seq.{drop-drop, take-at, drop-at, drop-cons, take-suc, set-at, sets-eq, length-take-le}
 use lib.Ieee.{Float, binary64, mul, div}
 use Rattle.checked.specs.Refusals.{ROW-TOO-SHORT}
 use Rattle.checked.specs.Checked.{Checked, first, nine, eight, given, Due, due, refused, settled, unless}
@@ -19,7 +19,7 @@ use Rattle.vectors.specs.Laws.{rules as vectors-rules}
 use Rattle.circle.specs.Circle.{sincosC}
 use Rattle.polylines.specs.declared.Rim.{Rim}
 use Rattle.polylines.specs.Rows.{upTo, flat, numberOf, partOf, rowAfter, Drawn}
-use Rattle.polylines.specs.Rims.{rimC, rimAtC, float, allRefusal, allDue}
+use Rattle.polylines.specs.Rims.{rimC, rimAtC, float, allRefusal, allDue, pointsDue}
 
 -- ---- one more
 pub upTo-refusal : {A : Type 0} (f : ℕ → Checked A) (m : ℕ) → upTo f (m + 1) .refusal ≡ first (upTo f m .refusal) (f (m + 1) .refusal)
@@ -63,6 +63,9 @@ unfolding upTo flat
 flat-length f zero = refl
 flat-length f (suc m) = rw (flat-append (upTo f m .value) (f (suc m) .value ∷ []), length-append) (omega (arith, flat-length f m))
 
+pub flat-part : (f : ℕ → Checked Vec3) (m : ℕ) (rest : List Float) → take (3 * m) (flat (upTo f m .value) ++ rest) ≡ flat (upTo f m .value)
+flat-part f m rest = take-at (flat (upTo f m .value)) rest (3 * m) (flat-length f m)
+
 -- ---- three numbers stored behind the n that are written
 stored : (a row : List Float) (n : ℕ) (x y z : Float) → length a ≡ n → n + 3 ≤ length row → set (set (set (a ++ drop n row) n x) (n + 1) y) (n + 2) z ≡ (a ++ x ∷ y ∷ z ∷ []) ++ drop (n + 3) row
 stored a row n x y z e h =
@@ -97,12 +100,14 @@ pub rimAt-refusal : (rim : Rim) (turn : Float) (n k : ℕ) → rimAtC rim turn n
 unfolding rimAtC
 rimAt-refusal rim turn n k = simp (rim-refusal, checked-rules, vectors-rules)
 
--- ---- what is due of m points
-pub all-none : (before : ℕ) (f : ℕ → Checked Vec3) (m : ℕ) → m ≡ 0 → allRefusal before f m ≡ 0
-unfolding allRefusal
-all-none before f zero h = refl
-all-none before f (suc m) h = absurd (omega arith)
+-- ---- one more number copied behind the first i
+pub copied : (buf row : List Float) (i : ℕ) (d : Float) → i < length buf → i < length row → set (take i buf ++ drop i row) i (getD buf i d) ≡ take (i + 1) buf ++ drop (i + 1) row
+copied buf row i d B R =
+    rw (add-one i, drop-cons row i d R)
+    (set-at (take i buf) (getD row i d) (drop (suc i) row) (getD buf i d) i (length-take-le i buf (omega arith))
+    ∙ sym (ap (λ (l : List Float). l ++ drop (suc i) row) (take-suc buf i d B) ∙ append-assoc (take i buf) (getD buf i d ∷ []) (drop (suc i) row)))
 
+-- ---- what is due of m points
 pub all-some : (before : ℕ) (f : ℕ → Checked Vec3) (m : ℕ) → (m ≡ 0 → ⊥) → allRefusal before f m ≡ first before (upTo f m .refusal)
 unfolding allRefusal
 all-some before f zero h = absurd (h refl)
@@ -113,13 +118,21 @@ module _ (before : ℕ) (f : ℕ → Checked Vec3) (m room : ℕ) where
   unfolding allDue
   due-short h = simp (lt-leb (3 * m) room h)
 
-  pub due-refused : 3 * m ≤ room → (allRefusal before f m ≡ 0 → ⊥) → allDue before f m room ≡ refused (allRefusal before f m)
+  pub due-some : 3 * m ≤ room → (m ≡ 0 → ⊥) → allDue before f m room ≡ pointsDue before f m
   unfolding allDue
-  due-refused h r = simp (le-leb (3 * m) room h) (settled-some (allRefusal before f m) (upTo f m .value) r)
+  due-some h s = simp (le-leb (3 * m) room h, all-some before f m s)
 
-  pub due-points : 3 * m ≤ room → allRefusal before f m ≡ 0 → allDue before f m room ≡ due (upTo f m .value)
-  unfolding allDue
-  due-points h r = simp (le-leb (3 * m) room h, r, settled-none)
+pub due-none : (before : ℕ) (f : ℕ → Checked Vec3) (m room : ℕ) → m ≡ 0 → allDue before f m room ≡ due []
+unfolding allDue allRefusal upTo
+due-none before f zero room h = simp (le-leb 0 room (omega arith), settled-none)
+due-none before f (suc m) room h = absurd (omega arith)
+
+module _ (before : ℕ) (f : ℕ → Checked Vec3) (m : ℕ) where
+  pub points-due : first before (upTo f m .refusal) ≡ 0 → pointsDue before f m ≡ due (upTo f m .value)
+  points-due r = simp (r, settled-none)
+
+  pub points-refused : (first before (upTo f m .refusal) ≡ 0 → ⊥) → pointsDue before f m ≡ refused (first before (upTo f m .refusal))
+  points-refused r = settled-some (first before (upTo f m .refusal)) (upTo f m .value) r
 
 -- ---- the written part, by the number
 accepted : (fit : Bool) (r : ℕ) (ps : List Vec3) → numberOf (unless ROW-TOO-SHORT fit (settled r ps)) ≡ 0 → unless ROW-TOO-SHORT fit (settled r ps) ≡ due ps
@@ -144,6 +157,11 @@ part-taken (refused n) row = refl
 pub part-fits : (d : Due (List Vec3)) (row : List Float) → length (partOf d) ≤ length (rowAfter d row)
 part-fits (due ps) row = omega (arith, length-append (flat ps) (drop (length (flat ps)) row))
 part-fits (refused n) row = omega arith
+
+-- no point leaves the row as it was
+pub none-left : (row : List Float) → rowAfter (due []) row ≡ row
+unfolding flat
+none-left row = refl
 
 -- a refused call
 pub drawn-refused : (n : ℕ) (row : List Float) → Drawn (refused n) row row n 0

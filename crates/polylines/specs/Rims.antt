@@ -26,7 +26,11 @@ rimAtC rim turn n k = do
   t ← num turn ⊗ num (float k) ⊘ num (float n)
   rimC rim t
 
--- m points, each of which meets the refusal `before`, if any, ahead of its own
+-- m points, at least one, each of which meets the refusal `before`, if any, ahead of its own
+abbrev pub pointsDue : ℕ → (ℕ → Checked Vec3) → ℕ → Due (List Vec3)
+pointsDue before f m = settled (first before (upTo f m .refusal)) (upTo f m .value)
+
+-- any number of points: with none nothing is refused
 unfoldable pub allRefusal : ℕ → (ℕ → Checked Vec3) → ℕ → ℕ
 allRefusal before f zero = 0
 allRefusal before f (suc m) = first before (upTo f (suc m) .refusal)

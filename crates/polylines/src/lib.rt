@@ -2,9 +2,9 @@
 ghost use mathlib.Core.Path.{_≡_};
 ghost use mathlib.Core.List.{_++_};
 ghost use Prim.Native.Nat.{_*_, _≤_};
-ghost use lib.ListN.{length, drop};
+ghost use lib.ListN.{length, take, drop};
 ghost use Rattle.polylines.specs.Rows.{upTo, flat, numberOf, rowAfter};
-ghost use Rattle.polylines.specs.Rims.{rimC, rimAtC, allRefusal, allDue};
+ghost use Rattle.polylines.specs.Rims.{rimC, rimAtC, pointsDue, allDue};
 use checked::ROW_TOO_SHORT;
 use checked::earlier;
 use circle::sincos;
@@ -60,36 +60,70 @@ fn noted_all(rim: Rim, turn: f64, n: u16, m: u16) -> u8
     r
 }
 
-// The points 1 to m, written from the row's start.
-fn write_all(row: &mut [f64], rim: Rim, turn: f64, n: u16, m: u16)
-    requires { ⌜ 3 * m ≤ length (now row) ⌝ }
-    ensures { λ _. ⌜ now (row .exit) ≡ flat (upTo (rimAtC rim turn n) m .value) ++ drop (3 * m) (now (row .entry)) ⌝ }
+// The points 1 to m, worked out into the start of a buffer, and the refusal that they meet first.
+fn work_out(buf: &mut [f64], rim: Rim, turn: f64, n: u16, m: u16) -> u8
+    requires { ⌜ 3 * m ≤ length (now buf) ⌝ }
+    ensures refusal { λ r. ⌜ r ≡ upTo (rimAtC rim turn n) m .refusal ⌝ }
+    ensures points { λ _. ⌜ now (buf .exit) ≡ flat (upTo (rimAtC rim turn n) m .value) ++ drop (3 * m) (now (buf .entry)) ⌝ }
 {
+    let mut r: u8 = 0;
     let mut i: u16 = 0;
     while i < m {
         let at = 3 * (i as usize);
         i += 1;
         let p = point_at(rim, turn, n, i);
         let v = p.value;
-        row[at] = v.x;
-        row[at + 1] = v.y;
-        row[at + 2] = v.z;
+        buf[at] = v.x;
+        buf[at + 1] = v.y;
+        buf[at + 2] = v.z;
+        r = earlier(r, p.refusal);
     }
+    r
 }
 
-// With no point nothing is refused; else `before`, which every point meets, then their own.
-fn refusal_of_all(before: u8, rim: Rim, turn: f64, n: u16, m: u16) -> u8
-    ensures { λ r. ⌜ r ≡ allRefusal before (rimAtC rim turn n) m ⌝ }
+// The first k numbers of a buffer, copied to the start of a row.
+fn copy_part(buf: &[f64], row: &mut [f64], k: usize)
+    requires { ⌜ k ≤ length (now buf) ⌝ ∗ ⌜ k ≤ length (now row) ⌝ }
+    ensures { λ _. ⌜ now (row .exit) ≡ take k (now (buf .entry)) ++ drop k (now (row .entry)) ⌝ }
 {
-    if m == 0 {
-        0
-    } else {
-        earlier(before, noted_all(rim, turn, n, m))
+    let mut i: usize = 0;
+    while i < k {
+        row[i] = buf[i];
+        i += 1;
     }
 }
 
-// Writes the points 1 to m of n on a turn and answers 0, or answers the refusal's number and leaves the row as it was. All points are
-// worked out once before the first is written.
+// The most points that are kept until the last of them is settled; an arc is hardly ever cut into more.
+const KEPT: u16 = 64;
+
+fn write_kept(row: &mut [f64], before: u8, rim: Rim, turn: f64, n: u16, m: u16) -> u8
+    requires { ⌜ 3 * m ≤ length (now row) ⌝ ∗ ⌜ m ≤ 64 ⌝ }
+    ensures number { λ r. ⌜ r ≡ numberOf (pointsDue before (rimAtC rim turn n) m) ⌝ }
+    ensures row { λ _. ⌜ now (row .exit) ≡ rowAfter (pointsDue before (rimAtC rim turn n) m) (now (row .entry)) ⌝ }
+{
+    let mut buf: [f64; 192] = [0.0; 192];
+    let r = earlier(before, work_out(&mut buf, rim, turn, n, m));
+    if r == 0 {
+        copy_part(&buf, &mut *row, 3 * (m as usize));
+    }
+    r
+}
+
+// Any number of points: they are worked out twice, since nothing is written before the last of them is settled.
+fn write_twice(row: &mut [f64], before: u8, rim: Rim, turn: f64, n: u16, m: u16) -> u8
+    requires { ⌜ 3 * m ≤ length (now row) ⌝ }
+    ensures number { λ r. ⌜ r ≡ numberOf (pointsDue before (rimAtC rim turn n) m) ⌝ }
+    ensures row { λ _. ⌜ now (row .exit) ≡ rowAfter (pointsDue before (rimAtC rim turn n) m) (now (row .entry)) ⌝ }
+{
+    let r = earlier(before, noted_all(rim, turn, n, m));
+    if r == 0 {
+        work_out(&mut *row, rim, turn, n, m);
+    }
+    r
+}
+
+// Writes the points 1 to m of n on a turn and answers 0, or answers the refusal's number and leaves the row as it was. `before`: the
+// refusal that every point meets ahead of its own, if any.
 pub fn write(row: &mut [f64], before: u8, rim: Rim, turn: f64, n: u16, m: u16) -> u8
     ensures number { λ r. ⌜ r ≡ numberOf (allDue before (rimAtC rim turn n) m (length (now (row .entry)))) ⌝ }
     ensures row { λ _. ⌜ now (row .exit) ≡ rowAfter (allDue before (rimAtC rim turn n) m (length (now (row .entry)))) (now (row .entry)) ⌝ }
@@ -97,9 +131,11 @@ pub fn write(row: &mut [f64], before: u8, rim: Rim, turn: f64, n: u16, m: u16) -
     if row.len() < 3 * (m as usize) {
         return ROW_TOO_SHORT;
     }
-    let r = refusal_of_all(before, rim, turn, n, m);
-    if r == 0 {
-        write_all(&mut *row, rim, turn, n, m);
+    if m == 0 {
+        return 0;
     }
-    r
+    if m <= KEPT {
+        return write_kept(&mut *row, before, rim, turn, n, m);
+    }
+    write_twice(&mut *row, before, rim, turn, n, m)
 }

@@ -1,9 +1,7 @@
-use mathlib.Core.Path.{_≡_, refl, sym, _∙_}
-use Prim.Native.Nat.{_≤_, _*_}
 use borrow.Author.Needs.{needs}
 use lib.ListN.{length}
-use Rattle.polylines.specs.Rims.{rimAtC, allRefusal}
-use Rattle.polylines.specs.Laws.{flat-length, due-short, due-refused, due-points}
+use Rattle.polylines.specs.Rims.{rimAtC}
+use Rattle.polylines.specs.Laws.{due-short, due-none, due-some, none-left}
 use Rattle.polylines.proofs.write.Statement.{statement}
 use Rattle.polylines.proofs.write.Tie as tie
 
@@ -13,34 +11,38 @@ mul-if1 c = search needs
 returns : tie.Need-returns
 returns c =
     let start = c .before .before .args in
-    let due = due-short (start .before) (rimAtC (start .rim) (start .turn) (start .n)) (start .m) _ (c .if1 .taken) in
+    let due = due-short (start .before) (rimAtC (start .rim) (start .turn) (start .n)) (start .m) (length (start .row .now)) (c .if1 .taken) in
     (simp due, simp due)
 
-refusal-of-all-requires : tie.Need-refusal-of-all-requires
-refusal-of-all-requires c κs = search needs
+returns-2 : tie.Need-returns-2
+returns-2 c =
+    let start = c .before .before .before .args in
+    let due = due-none (start .before) (rimAtC (start .rim) (start .turn) (start .n)) (start .m) (length (start .row .now)) (c .if2 .taken) in
+    (simp due, simp (due, none-left))
 
-write-all-requires : tie.Need-write-all-requires
-write-all-requires c κs = search needs
+write-kept-requires : tie.Need-write-kept-requires
+write-kept-requires c κs = search needs
 
 same-length : tie.Need-same-length
 same-length c = search needs
 
-returns-2 : tie.Need-returns-2
-returns-2 c =
-    let start = c .before .before .before .before .before .before .before .before .args in
-    let f = rimAtC (start .rim) (start .turn) (start .n) in
-    let r = c .before .before .before .before .before .refusal-of-all in
-    let none = c .before .before .before .before .if2 .taken in
-    let due = due-points (start .before) f (start .m) _ (c .before .before .before .before .before .before .if1 .left) (sym (r .ensures) ∙ none) in
-    (simp (due, none), simp (due, c .before .before .write-all .ensures, flat-length))
-
 returns-3 : tie.Need-returns-3
 returns-3 c =
-    let start = c .before .before .before .before .args in
-    let f = rimAtC (start .rim) (start .turn) (start .n) in
-    let r = c .before .refusal-of-all in
-    let due = due-refused (start .before) f (start .m) _ (c .before .before .if1 .left) (λ e. c .if2 .left (r .ensures ∙ e)) in
-    (simp (due, r .ensures), simp due)
+    let start = c .before .before .before .before .before .before .before .before .args in
+    let due = due-some (start .before) (rimAtC (start .rim) (start .turn) (start .n)) (start .m) (length (start .row .now)) (c .before .before .before .before .before .before .if1 .left) (c .before .before .before .before .before .if2 .left) in
+    (simp due (c .before .before .write-kept .ensures .0), simp due (c .before .before .write-kept .ensures .1))
+
+write-twice-requires : tie.Need-write-twice-requires
+write-twice-requires c κs = search needs
+
+same-length-2 : tie.Need-same-length-2
+same-length-2 c = search needs
+
+returns-4 : tie.Need-returns-4
+returns-4 c =
+    let start = c .before .before .before .before .before .before .before .before .args in
+    let due = due-some (start .before) (rimAtC (start .rim) (start .turn) (start .n)) (start .m) (length (start .row .now)) (c .before .before .before .before .before .before .if1 .left) (c .before .before .before .before .before .if2 .left) in
+    (simp due (c .before .before .write-twice .ensures .0), simp due (c .before .before .write-twice .ensures .1))
 
 pub write-spec : {M : Type 1} → statement M
 write-spec =
@@ -48,8 +50,10 @@ write-spec =
     (tie.spec
     mul-if1
     returns
-    refusal-of-all-requires
-    write-all-requires
-    same-length
     returns-2
-    returns-3)
+    write-kept-requires
+    same-length
+    returns-3
+    write-twice-requires
+    same-length-2
+    returns-4)
