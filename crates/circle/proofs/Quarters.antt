@@ -15,8 +15,8 @@ use lib.Ieee.Exact.{HasValue}
 use lib.Ieee.Order.{round-mono}
 use lib.Ieee.Back.{positive-back, negative-back}
 use borrow.Author.Tests.{lt-ltb}
-use Rattle.rounding.proofs.Values.{fits-small, neg-round}
-use Rattle.rounding.proofs.Patterns.{value-unique, pattern-value, rescale}
+use Rattle.rounding.specs.Values.{fits-small, neg-round}
+use Rattle.rounding.specs.Patterns.{value-unique, pattern-value, rescale}
 use Rattle.checked.specs.Checked.{within as due, limit}
 use Rattle.circle.specs.Circle.{quarter, tmp, f-n, turns}
 

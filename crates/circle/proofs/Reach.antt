@@ -12,8 +12,8 @@ use lib.Pow.{pow-mono, pow-pos, pow-add}
 use lib.Ieee.{Float, nan, inf, fin, binary64, up, down, le, lt, fits, toBits, ofBits}
 use lib.Ieee.Fits.{down-pos, up-pos}
 use lib.Ieee.Exact.{HasValue}
-use Rattle.rounding.proofs.Patterns.{read-mid, read-top}
-use Rattle.rounding.proofs.Values.{nought, zero-exponent}
+use Rattle.rounding.specs.Patterns.{read-mid, read-top}
+use Rattle.rounding.specs.Values.{nought, zero-exponent}
 use Rattle.checked.specs.Checked.{within}
 use Rattle.checked.specs.Patterns.{high-word}
 use Rattle.words.specs.Words.{fabs}

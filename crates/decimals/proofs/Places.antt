@@ -5,19 +5,9 @@ use mathlib.Core.List.{List, _∷_, _++_}
 use Prim.Native.Nat.{ℕ, zero, suc, _+_, _-_, _/_, _%_, _^_, _≤_, _<_}
 use native.Mathlib.Omega.{arith}
 use lib.ListN.{length, drop, set, drop-of-length-le}
-use lib.Seq.{drop-cons, drop-set-lt, getD-set-same, lt-length-set, append-snoc}
+use lib.Seq.{append-snoc}
 use Rattle.decimals.specs.Digits.{glyph, digits}
-use Rattle.decimals.specs.DigitLaws.{ahead, ahead-some, fewer, spelled-suc, digits-are}
-
--- what stands from a place on, after a store there
-pub drop-set : (l : List ℕ) (i a : ℕ) → i < length l → drop i (set l i a) ≡ a ∷ drop (suc i) l
-drop-set l i a h =
-    drop-cons (set l i a) i 0 (lt-length-set l i a h)
-    ∙ ap (λ (x : ℕ). x ∷ drop (suc i) (set l i a)) (getD-set-same l i a 0 h)
-    ∙ ap (λ (r : List ℕ). a ∷ r) (drop-set-lt (suc i) l i a (next i))
-  where
-    next : (k : ℕ) → k < suc k
-    next k = omega arith
+use Rattle.decimals.specs.DigitLaws.{drop-set, ahead, ahead-some, fewer, spelled-suc, digits-are}
 
 -- the last digit stands at the end
 pub last-digit : (n : ℕ) (out : List ℕ) → n < 10 ^ 20 → length out ≡ 20 → ahead 19 (n / 10) ++ drop 19 (set out 19 (glyph (n % 10))) ≡ digits n

@@ -8,10 +8,22 @@ use native.Mathlib.Nat.{lt-of-lt-of-le, le-trans, le-suc, pow-suc, pow-le-pow-le
 use native.Mathlib.Omega.{arith}
 use lib.Dec.{T, eqb, eqb→eq, lit≤, lit<}
 use borrow.Author.Tests.{ne-eqb, eq-eqb, eqb-false}
-use lib.ListN.{length, length-append}
+use lib.ListN.{length, length-append, drop, set}
+use lib.Seq.{drop-cons, drop-set-lt, getD-set-same, lt-length-set}
 use lib.Ieee.{size}
 use lib.Ieee.Digits.{size-lt}
 use Rattle.decimals.specs.Digits.{glyph, spelled, digits}
+
+-- ---- digits in a buffer
+-- what stands from a place on, after a store there
+pub drop-set : (l : List ℕ) (i a : ℕ) → i < length l → drop i (set l i a) ≡ a ∷ drop (suc i) l
+drop-set l i a h =
+    drop-cons (set l i a) i 0 (lt-length-set l i a h)
+    ∙ ap (λ (x : ℕ). x ∷ drop (suc i) (set l i a)) (getD-set-same l i a 0 h)
+    ∙ ap (λ (r : List ℕ). a ∷ r) (drop-set-lt (suc i) l i a (next i))
+  where
+    next : (k : ℕ) → k < suc k
+    next k = omega arith
 
 -- ---- how many digits there may be does not count, once they are enough
 -- the digits before the last one, where n is what they are of

@@ -12,7 +12,7 @@ use borrow.Author.Tests.{ltb-true, ltb-false}
 use Rattle.checked.specs.Checked.{due, settled, first}
 use Rattle.decimals.specs.Digits.{digits, numeral}
 use Rattle.decimals.specs.Thousandths.{signed}
-use Rattle.decimals.proofs.Places.{drop-set}
+use Rattle.decimals.specs.DigitLaws.{drop-set}
 use Rattle.vectors.specs.declared.Vec3.{Vec3}
 use Rattle.edge_lines.specs.Lines.{bytes, spaced, corner, emptyLine, refusedLine, cornersLine, boxLine}
 

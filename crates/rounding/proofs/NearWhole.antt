@@ -12,8 +12,8 @@ use lib.Ieee.{Float, fin, binary64, up, down, size, nearest, units, round, add, 
 use lib.Ieee.Fits.{down-pos, round-is, core}
 use lib.Ieee.Exact.{HasValue, units-val}
 use Rattle.rounding.specs.Whole.{Near}
-use Rattle.rounding.proofs.Values.{sub-wholes}
-use Rattle.rounding.proofs.Patterns.{rescale}
+use Rattle.rounding.specs.Values.{sub-wholes}
+use Rattle.rounding.specs.Patterns.{rescale}
 use Rattle.rounding.proofs.Roots.{Cmp, cmp, size-is}
 
 abbrev pub big : Float

@@ -14,9 +14,9 @@ use lib.Ieee.{Float, nan, inf, fin, binary64, up, down, units, fits, lt, toBits}
 use lib.Ieee.Fits.{down-pos, up-pos, and-l, and-r}
 use lib.Ieee.Exact.{HasValue, units-val}
 use Rattle.rounding.specs.Root.{sqrt, round-root, NearRoot}
-use Rattle.rounding.proofs.Values.{nought, fits-small, fits-low}
+use Rattle.rounding.specs.Values.{nought, fits-small, fits-low}
 use Rattle.rounding.proofs.Roots.{near-exists, middle-above, middle-below, squares-le, square-of, near-range, round-root-is}
-use Rattle.rounding.proofs.Patterns.{read-top}
+use Rattle.rounding.specs.Patterns.{read-top}
 use Rattle.rounding.proofs.SquareRoot.{Parts, normal, subnormal, in-units, n-ge, n-lt, h-lt}
 
 abbrev Finite : Float → Type 0

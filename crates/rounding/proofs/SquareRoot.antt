@@ -16,9 +16,9 @@ use lib.Ieee.Fits.{down-pos}
 use lib.Ieee.Exact.{HasValue}
 use Rattle.rounding.specs.Root.{sqrt, round-root, NearRoot}
 use Rattle.rounding.proofs.Roots.{round-root-is, near-range}
-use Rattle.rounding.proofs.Values.{nought}
+use Rattle.rounding.specs.Values.{nought}
 use Rattle.rounding.proofs.Wholes.{no-less, Flat}
-use Rattle.rounding.proofs.Patterns.{rescale, units-pattern, pattern-no-nan, bits-lt, read-top, read-low, read-mid, low-pos}
+use Rattle.rounding.specs.Patterns.{rescale, units-pattern, pattern-no-nan, bits-lt, read-top, read-low, read-mid, low-pos}
 
 -- ---- the exponents
 

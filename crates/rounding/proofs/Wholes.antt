@@ -15,7 +15,7 @@ use lib.Ieee.Exact.{HasValue, round-exact}
 use lib.Ieee.Scale.{round-same}
 use lib.Ieee.Back.{round-whole}
 use Rattle.rounding.specs.Whole.{ceil, round-away, ceiled, halved-up, Near}
-use Rattle.rounding.proofs.Values.{nought, fits-small, zero-exponent, whole-is, neg-round, lt-values, add-wholes, sub-wholes}
+use Rattle.rounding.specs.Values.{nought, fits-small, zero-exponent, whole-is, neg-round, lt-values, add-wholes, sub-wholes}
 use Rattle.rounding.proofs.NearWhole.{big}
 
 abbrev pub one : Float

@@ -5,9 +5,9 @@ use Prim.Native.Nat.{ℕ, _+_, _-_, _*_, _/_, _%_, _^_, _<_, _≤_}
 use native.Mathlib.Omega.{arith}
 use lib.Dec.{T}
 use lib.Ieee.{Float, binary64, fits, lt, div, ofBits, toBits}
-use Rattle.rounding.proofs.Values.{nought}
+use Rattle.rounding.specs.Values.{nought}
 use Rattle.rounding.proofs.Wholes.{flat}
-use Rattle.rounding.proofs.Patterns.{above-no-nan}
+use Rattle.rounding.specs.Patterns.{above-no-nan}
 use Rattle.rounding.proofs.SquareRoot.{Parts, field-lt, infinite, normal, zeros, subnormal, made-no-nan, finish, root-below, root-flat}
 use Rattle.rounding.proofs.sqrt.Statement.{statement}
 use Rattle.rounding.proofs.sqrt.Tie as tie

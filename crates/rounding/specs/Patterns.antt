@@ -14,7 +14,7 @@ use lib.Ieee.{Float, nan, inf, fin, Format, prec, emax, low, up, down, odd, unit
 use lib.Ieee.Fits.{and-l, and-r, down-pos, up-pos, two, reach, two-le-pos, odd-fits, inf-fits, eq→eqb}
 use lib.Ieee.Bits.{ofBits-toBits, ofBits-fits, nanBits-is, is-true, is-false, cond-no}
 use lib.Ieee.Exact.{HasValue, odd-sign, units-val}
-use Rattle.rounding.proofs.Values.{nought, zero-exponent}
+use Rattle.rounding.specs.Values.{nought, zero-exponent}
 
 -- ---- from one fraction to another of the same size
 pub rescale : (x : Float) (s : Bool) (w l num den : ℕ) → 0 < l → num * l ≡ w * den → HasValue x s w l → HasValue x s num den
