@@ -79,10 +79,9 @@ pub fn turned(arc: Arc, d: Vec3, t: f64) -> CheckedVec3
     ensures value { λ r. ⌜ r .value ≡ turnedC arc d t .value ⌝ }
 {
     let s = sincos(t);
-    let c = s.value;
     let p = plus(
-        plus(arc.center, times(d, c.cos)),
-        times(cross(arc.axis, d), c.sin),
+        plus(arc.center, times(d, s.cos)),
+        times(cross(arc.axis, d), s.sin),
     );
     CheckedVec3 {
         refusal: noted(p, s.refusal),

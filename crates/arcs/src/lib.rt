@@ -34,8 +34,8 @@ pub struct Arc {
 
 // An arc, with the refusal that its computation met first; 0 is none.
 pub struct CheckedArc {
-    pub refusal: u8,
     pub value: Arc,
+    pub refusal: u8,
 }
 
 // An arc's sweep, and into how many chords it is cut.
@@ -46,8 +46,8 @@ pub struct Cut {
 
 // A cut, with the refusal that its computation met first; 0 is none.
 pub struct CheckedCut {
-    pub refusal: u8,
     pub value: Cut,
+    pub refusal: u8,
 }
 
 // What a call on a lent row answers: the refusal's number or 0, and how many points are written.

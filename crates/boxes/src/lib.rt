@@ -14,8 +14,8 @@ pub struct Bounds {
 
 // A box, with the refusal that its computation met first; 0 is none.
 pub struct CheckedBounds {
-    pub refusal: u8,
     pub value: Bounds,
+    pub refusal: u8,
 }
 
 // The answer of a box call.

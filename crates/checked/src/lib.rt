@@ -42,8 +42,8 @@ pub const MALFORMED_FILE: u8 = 11;
 
 // A number, with the refusal that its computation met first; 0 is none.
 pub struct CheckedNumber {
-    pub refusal: u8,
     pub value: f64,
+    pub refusal: u8,
 }
 
 // The answer of an entry whose result is a number.

@@ -13,8 +13,8 @@ pub mod formula;
 
 // A count, with the refusal that its computation met first; 0 is none.
 pub struct CheckedCount {
-    pub refusal: u8,
     pub value: u16,
+    pub refusal: u8,
 }
 
 fn are_within(radius: f64, chord: f64) -> bool

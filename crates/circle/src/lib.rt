@@ -67,10 +67,12 @@ pub struct Sines {
     pub cos: f64,
 }
 
-// A sine and a cosine, with the refusal that their angle met; 0 is none.
+// A sine and a cosine, with the refusal that their angle met; 0 is none. It stands between them so that the two are read one by one, as
+// they are stored: a pair read at once would wait until both have left for memory.
 pub struct CheckedSines {
+    pub sin: f64,
     pub refusal: u8,
-    pub value: Sines,
+    pub cos: f64,
 }
 
 // The sine of x.
@@ -338,19 +340,21 @@ fn both_sines(x: f64) -> Sines
 
 pub fn sincos(x: f64) -> CheckedSines
     ensures refusal { λ r. ⌜ r .refusal ≡ Circle.sincosC x .refusal ⌝ }
-    ensures value { λ r. ⌜ r .value ≡ Circle.sincosC x .value ⌝ }
+    ensures sin { λ r. ⌜ r .sin ≡ Circle.sincosC x .value .sin ⌝ }
+    ensures cos { λ r. ⌜ r .cos ≡ Circle.sincosC x .value .cos ⌝ }
 {
     if is_within(x) {
         let v = both_sines(x);
         CheckedSines {
+            sin: v.sin,
             refusal: 0,
-            value: v,
+            cos: v.cos,
         }
     } else {
-        let v = Sines { sin: 0.0, cos: 0.0 };
         CheckedSines {
+            sin: 0.0,
             refusal: angle_refusal(x),
-            value: v,
+            cos: 0.0,
         }
     }
 }

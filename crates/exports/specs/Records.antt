@@ -5,8 +5,9 @@ use mathlib.Core.List.{List}
 use lib.Dec.{eqb}
 use lib.ListN.{getD, set, length}
 use lib.Ieee.{Float, nan}
-use Rattle.checked.specs.Checked.{Due, due, refused}
+use Rattle.checked.specs.Checked.{Due, due, refused, settled}
 use Rattle.circle.specs.declared.Sines.{Sines}
+use Rattle.circle.specs.declared.CheckedSines.{CheckedSines}
 use Rattle.vectors.specs.declared.Vec2.{Vec2}
 use Rattle.vectors.specs.declared.Vec3.{Vec3}
 use Rattle.motions.specs.declared.Rigid.{Rigid}
@@ -48,6 +49,10 @@ bounds l = record { low = vec3At l 0 1 2; high = vec3At l 3 4 5 }
 unfoldable pub numberOf : {A : Type 0} → Due A → ℕ
 numberOf (due a) = 0
 numberOf (refused n) = n
+
+-- a sine and a cosine, or their refusal
+abbrev pub sinesDue : CheckedSines → Due Sines
+sinesDue a = settled (a .refusal) (record { sin = a .sin; cos = a .cos })
 
 -- ---- what an array holds after the call: the result, or what it held before
 abbrev setVec3 : List Float → ℕ → ℕ → ℕ → Vec3 → List Float

@@ -1,11 +1,11 @@
 // Records as arrays of numbers, and answers stored where they are due.
 ghost use mathlib.Core.Path.{_≡_};
-ghost use Rattle.checked.specs.Checked.{numberDue, settled};
+ghost use Rattle.checked.specs.Checked.{numberDue};
 ghost use Rattle.vectors.specs.Entries.{vectorDue, indexDue};
 ghost use Rattle.motions.specs.Motions.{motionDue};
 ghost use Rattle.arcs.specs.Entries.{arcDue};
 ghost use Rattle.boxes.specs.Boxes.{widenedDue};
-ghost use Rattle.exports.specs.Records.{vec2, vec3, rigid, arc, numberOf, after1, after2, after3, after6, after7, after12, afterIndex};
+ghost use Rattle.exports.specs.Records.{vec2, vec3, rigid, arc, numberOf, sinesDue, after1, after2, after3, after6, after7, after12, afterIndex};
 use arcs::Arc;
 use arcs::ArcAnswer;
 use boxes::Widened;
@@ -167,13 +167,13 @@ pub fn store_index(k: Index, out: &mut [u64; 1]) -> u32
 }
 
 pub fn store_sines(a: CheckedSines, out: &mut [f64; 2]) -> u32
-    ensures number { λ r. ⌜ r ≡ numberOf (settled (a .refusal) (a .value)) ⌝ }
-    ensures out { λ _. ⌜ now (out .exit) ≡ after2 (now (out .entry)) (settled (a .refusal) (a .value)) ⌝ }
+    ensures number { λ r. ⌜ r ≡ numberOf (sinesDue a) ⌝ }
+    ensures out { λ _. ⌜ now (out .exit) ≡ after2 (now (out .entry)) (sinesDue a) ⌝ }
 {
     let r = a.refusal;
     if r == 0 {
-        out[0] = a.value.sin;
-        out[1] = a.value.cos;
+        out[0] = a.sin;
+        out[1] = a.cos;
         return 0;
     }
     r as u32

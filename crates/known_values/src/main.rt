@@ -69,8 +69,8 @@ fn circle_at(t: Circle, x: f64, sine: f64, cosine: f64) -> Circle {
     let a = circle::sin(x);
     let b = circle::sincos(x);
     let u = t.sincos;
-    let v = counted(b"sincos", u, accepted(b.refusal, b.value.sin), sine);
-    let w = counted(b"sincos", v, accepted(b.refusal, b.value.cos), cosine);
+    let v = counted(b"sincos", u, accepted(b.refusal, b.sin), sine);
+    let w = counted(b"sincos", v, accepted(b.refusal, b.cos), cosine);
     let s = t.sin;
     let r = counted(b"sin", s, accepted(a.refusal, a.value), sine);
     Circle { sin: r, sincos: w }

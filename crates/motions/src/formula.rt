@@ -125,8 +125,8 @@ pub fn rotation(axis: Vec3, angle: f64) -> CheckedRigid
 {
     let k = axis_of(axis);
     let a = sincos(angle);
-    let t = 1.0 - a.value.cos;
-    let m = rows(k.value, a.value.sin, a.value.cos, t);
+    let t = 1.0 - a.cos;
+    let m = rows(k.value, a.sin, a.cos, t);
     CheckedRigid {
         refusal: rows_noted(m, note(earlier(k.refusal, a.refusal), t)),
         value: Rigid {

@@ -29,8 +29,8 @@ pub struct Rigid {
 
 // A motion, with the refusal that its computation met first; 0 is none.
 pub struct CheckedRigid {
-    pub refusal: u8,
     pub value: Rigid,
+    pub refusal: u8,
 }
 
 // The answer of an entry whose result is a motion.

@@ -27,10 +27,9 @@ fn point(rim: Rim, t: f64) -> CheckedVec3
     ensures value { λ r. ⌜ r .value ≡ rimC rim t .value ⌝ }
 {
     let s = sincos(t);
-    let c = s.value;
     let p = plus(
-        plus(rim.center, times(rim.start, c.cos)),
-        times(rim.quarter, c.sin),
+        plus(rim.center, times(rim.start, s.cos)),
+        times(rim.quarter, s.sin),
     );
     CheckedVec3 {
         refusal: noted(p, s.refusal),

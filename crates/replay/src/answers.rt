@@ -51,9 +51,8 @@ pub fn is_number(line: &[u8], inputs: u8, answer: Number) -> bool {
 
 pub fn is_sines(line: &[u8], answer: CheckedSines) -> bool {
     let r = answer.refusal;
-    let s = answer.value;
     if r == 0 {
-        is_due(line, 0, 3) & is_pattern(line, 1, s.sin) & is_pattern(line, 2, s.cos)
+        is_due(line, 0, 3) & is_pattern(line, 1, answer.sin) & is_pattern(line, 2, answer.cos)
     } else {
         is_refused(line, r, 1)
     }

@@ -27,8 +27,8 @@ pub struct Vec3 {
 
 // A vector, with the refusal that its computation met first; 0 is none.
 pub struct CheckedVec3 {
-    pub refusal: u8,
     pub value: Vec3,
+    pub refusal: u8,
 }
 
 // The answer of an entry whose result is a vector.

@@ -29,7 +29,7 @@ noted-requires c κs = search needs
 
 returns : tie.Need-returns
 unfolding turnedC
-returns c = ((simp (c .noted .ensures, c .before .plus2 .ensures, c .before .before .times2 .ensures, c .before .before .before .cross .ensures, c .before .before .before .before .plus .ensures, c .before .before .before .before .before .times .ensures, c .before .before .before .before .before .before .before .sincos .ensures .0, c .before .before .before .before .before .before .before .sincos .ensures .1, first-assoc)) ∙ sym (turned-refusal (c .before .before .before .before .before .before .before .before .args .arc) (c .before .before .before .before .before .before .before .before .args .d) (c .before .before .before .before .before .before .before .before .args .t)), simp (c .before .plus2 .ensures, c .before .before .times2 .ensures, c .before .before .before .cross .ensures, c .before .before .before .before .plus .ensures, c .before .before .before .before .before .times .ensures, c .before .before .before .before .before .before .before .sincos .ensures .1))
+returns c = ((simp (c .noted .ensures, c .before .plus2 .ensures, c .before .before .times2 .ensures, c .before .before .before .cross .ensures, c .before .before .before .before .plus .ensures, c .before .before .before .before .before .times .ensures, c .before .before .before .before .before .before .sincos .ensures .0, c .before .before .before .before .before .before .sincos .ensures .1 .0, c .before .before .before .before .before .before .sincos .ensures .1 .1, first-assoc)) ∙ sym (turned-refusal (c .before .before .before .before .before .before .before .args .arc) (c .before .before .before .before .before .before .before .args .d) (c .before .before .before .before .before .before .before .args .t)), simp (c .before .plus2 .ensures, c .before .before .times2 .ensures, c .before .before .before .cross .ensures, c .before .before .before .before .plus .ensures, c .before .before .before .before .before .times .ensures, c .before .before .before .before .before .before .sincos .ensures .1 .0, c .before .before .before .before .before .before .sincos .ensures .1 .1))
 
 pub turned-spec : {M : Type 1} → statement M
 turned-spec =

@@ -1,5 +1,6 @@
 use borrow.Author.Needs.{needs}
 use Rattle.checked.specs.Laws.{settled-some, settled-none}
+use Rattle.circle.specs.declared.Sines.{Sines}
 use Rattle.exports.specs.Records.{numberOf, after2}
 use Rattle.exports.proofs.records.store_sines.Statement.{statement}
 use Rattle.exports.proofs.records.store_sines.Tie as tie
@@ -21,7 +22,7 @@ returns-2 : tie.Need-returns-2
 unfolding numberOf after2
 returns-2 c =
     let a = c .before .args .a in
-    let e = settled-some (a .refusal) (a .value) (c .if1 .left) in
+    let e = settled-some {A = Sines} (a .refusal) (record { sin = a .sin; cos = a .cos }) (c .if1 .left) in
     (simp e, simp e)
 
 pub store-sines-spec : {M : Type 1} → statement M

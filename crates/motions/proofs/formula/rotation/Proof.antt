@@ -25,7 +25,7 @@ rows-noted-requires c κs = search needs
 
 returns : tie.Need-returns
 unfolding rotationC
-returns c = (simp (c .rows-noted .ensures, c .before .note .ensures, c .before .before .earlier .ensures, c .before .before .before .rows .ensures, c .before .before .before .before .before .sincos .ensures .0, c .before .before .before .before .before .sincos .ensures .1, c .before .before .before .before .before .before .axis-of .ensures .0, c .before .before .before .before .before .before .axis-of .ensures .1, checked-rules, motions-rules), simp (c .before .before .before .rows .ensures, c .before .before .before .before .before .sincos .ensures .1, c .before .before .before .before .before .before .axis-of .ensures .1))
+returns c = (simp (c .rows-noted .ensures, c .before .note .ensures, c .before .before .earlier .ensures, c .before .before .before .rows .ensures, c .before .before .before .before .before .sincos .ensures .0, c .before .before .before .before .before .sincos .ensures .1 .0, c .before .before .before .before .before .sincos .ensures .1 .1, c .before .before .before .before .before .before .axis-of .ensures .0, c .before .before .before .before .before .before .axis-of .ensures .1, checked-rules, motions-rules), simp (c .before .before .before .rows .ensures, c .before .before .before .before .before .sincos .ensures .1 .0, c .before .before .before .before .before .sincos .ensures .1 .1, c .before .before .before .before .before .before .axis-of .ensures .1))
 
 pub rotation-spec : {M : Type 1} → statement M
 rotation-spec =
