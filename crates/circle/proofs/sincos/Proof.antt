@@ -17,17 +17,17 @@ angle-refusal-requires c κs = search needs
 
 returns : tie.Need-returns
 unfolding sinesOrZeros
-returns c =
-    (
-    sym (meets-none _ (sym (c .before .before .is-within .ensures) ∙ c .before .if1 .taken)),
-    (simp (c .both-sines .ensures, sym (c .before .before .is-within .ensures) ∙ c .before .if1 .taken), simp (c .both-sines .ensures, sym (c .before .before .is-within .ensures) ∙ c .before .if1 .taken)))
+returns c = (
+  sym (meets-none _ (sym (c .before .before .is-within .ensures) ∙ c .before .if1 .taken)),
+  (simp (c .both-sines .ensures, sym (c .before .before .is-within .ensures) ∙ c .before .if1 .taken), simp (c .both-sines .ensures, sym (c .before .before .is-within .ensures) ∙ c .before .if1 .taken)),
+)
 
 returns-2 : tie.Need-returns-2
 unfolding sinesOrZeros
-returns-2 c =
-    (
-    c .angle-refusal .ensures,
-    (simp (sym (c .before .before .is-within .ensures) ∙ c .before .if1 .left), simp (sym (c .before .before .is-within .ensures) ∙ c .before .if1 .left)))
+returns-2 c = (
+  c .angle-refusal .ensures,
+  (simp (sym (c .before .before .is-within .ensures) ∙ c .before .if1 .left), simp (sym (c .before .before .is-within .ensures) ∙ c .before .if1 .left)),
+)
 
 pub sincos-spec : {M : Type 1} → statement M
 sincos-spec =
