@@ -37,19 +37,19 @@ fn is_vec3(line: &[u8], k: u8, v: Vec3) -> bool {
 }
 
 // A number that is never refused.
-pub fn is_value(line: &[u8], inputs: u8, x: f64) -> bool {
+pub(crate) fn is_value(line: &[u8], inputs: u8, x: f64) -> bool {
     let first = inputs as usize;
     is_due(line, 0, first + 1) & is_pattern(line, first, x)
 }
 
-pub fn is_number(line: &[u8], inputs: u8, answer: Number) -> bool {
+pub(crate) fn is_number(line: &[u8], inputs: u8, answer: Number) -> bool {
     match answer {
         Number::Value(x) => is_value(line, inputs, x),
         Number::Refused(r) => is_refused(line, r, inputs),
     }
 }
 
-pub fn is_sines(line: &[u8], answer: CheckedSines) -> bool {
+pub(crate) fn is_sines(line: &[u8], answer: CheckedSines) -> bool {
     let r = answer.refusal;
     if r == 0 {
         is_due(line, 0, 3) & is_pattern(line, 1, answer.sin) & is_pattern(line, 2, answer.cos)
@@ -58,7 +58,7 @@ pub fn is_sines(line: &[u8], answer: CheckedSines) -> bool {
     }
 }
 
-pub fn is_index(line: &[u8], inputs: u8, answer: Index) -> bool {
+pub(crate) fn is_index(line: &[u8], inputs: u8, answer: Index) -> bool {
     let first = inputs as usize;
     match answer {
         Index::Value(i) => is_due(line, 0, first + 1) & (pattern(line, first) == i as u64),
@@ -66,7 +66,7 @@ pub fn is_index(line: &[u8], inputs: u8, answer: Index) -> bool {
     }
 }
 
-pub fn is_vector(line: &[u8], inputs: u8, answer: Vector) -> bool {
+pub(crate) fn is_vector(line: &[u8], inputs: u8, answer: Vector) -> bool {
     match answer {
         Vector::Value(v) => is_due(line, 0, inputs as usize + 3) & is_vec3(line, inputs, v),
         Vector::Refused(r) => is_refused(line, r, inputs),
@@ -80,14 +80,14 @@ fn is_rigid(line: &[u8], k: u8, m: Rigid) -> bool {
         & is_vec3(line, wrapping_add_u8(k, 9), m.shift)
 }
 
-pub fn is_motion(line: &[u8], inputs: u8, answer: Motion) -> bool {
+pub(crate) fn is_motion(line: &[u8], inputs: u8, answer: Motion) -> bool {
     match answer {
         Motion::Value(m) => is_due(line, 0, inputs as usize + 12) & is_rigid(line, inputs, m),
         Motion::Refused(r) => is_refused(line, r, inputs),
     }
 }
 
-pub fn is_arc(line: &[u8], answer: ArcAnswer) -> bool {
+pub(crate) fn is_arc(line: &[u8], answer: ArcAnswer) -> bool {
     match answer {
         ArcAnswer::Value(a) => is_due(line, 0, 14)
             & is_vec3(line, 7, a.center)
@@ -97,7 +97,7 @@ pub fn is_arc(line: &[u8], answer: ArcAnswer) -> bool {
     }
 }
 
-pub fn is_box(line: &[u8], answer: Widened) -> bool {
+pub(crate) fn is_box(line: &[u8], answer: Widened) -> bool {
     match answer {
         Widened::Box(b) => is_due(line, 0, 25)
             & is_vec3(line, 19, b.low)
@@ -118,7 +118,7 @@ fn are_points(line: &[u8], points: &[f64]) -> bool {
 }
 
 // The written part of a row, after how many numbers it has.
-pub fn is_row(line: &[u8], refusal: u8, points: &[f64]) -> bool {
+pub(crate) fn is_row(line: &[u8], refusal: u8, points: &[f64]) -> bool {
     let n = points.len();
     if refusal == 0 {
         is_due(line, 0, wrapping_add_usize(n, 16))

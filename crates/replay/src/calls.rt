@@ -115,7 +115,7 @@ fn inner_points(line: &[u8]) -> bool {
 }
 
 // Whether the line's answer is that of the entry; an operation that nobody knows is never alike.
-pub fn is_alike(operation: u64, line: &[u8]) -> bool {
+pub(crate) fn is_alike(operation: u64, line: &[u8]) -> bool {
     match operation {
         1..=8 => of_numbers(operation, line),
         9..=15 => of_vectors(operation, line),

@@ -7,11 +7,11 @@ use motions::Rows;
 use vectors::Vec2;
 use vectors::Vec3;
 
-pub fn number(line: &[u8], k: usize) -> f64 {
+pub(crate) fn number(line: &[u8], k: usize) -> f64 {
     checked::of_bits(pattern(line, k))
 }
 
-pub fn vec2(line: &[u8], k: u8) -> Vec2 {
+pub(crate) fn vec2(line: &[u8], k: u8) -> Vec2 {
     let first = k as usize;
     Vec2 {
         x: number(line, first),
@@ -19,7 +19,7 @@ pub fn vec2(line: &[u8], k: u8) -> Vec2 {
     }
 }
 
-pub fn vec3(line: &[u8], k: u8) -> Vec3 {
+pub(crate) fn vec3(line: &[u8], k: u8) -> Vec3 {
     let first = k as usize;
     Vec3 {
         x: number(line, first),
@@ -29,7 +29,7 @@ pub fn vec3(line: &[u8], k: u8) -> Vec3 {
 }
 
 // The arc that a line begins with.
-pub fn arc(line: &[u8]) -> Arc {
+pub(crate) fn arc(line: &[u8]) -> Arc {
     Arc {
         center: vec3(line, 0),
         axis: vec3(line, 3),
@@ -38,7 +38,7 @@ pub fn arc(line: &[u8]) -> Arc {
 }
 
 // The motion that a line begins with.
-pub fn rigid(line: &[u8]) -> Rigid {
+pub(crate) fn rigid(line: &[u8]) -> Rigid {
     Rigid {
         rot: Rows {
             x: vec3(line, 0),
@@ -50,7 +50,7 @@ pub fn rigid(line: &[u8]) -> Rigid {
 }
 
 // The box that follows an arc and its two ends.
-pub fn bounds(line: &[u8]) -> Bounds {
+pub(crate) fn bounds(line: &[u8]) -> Bounds {
     Bounds {
         low: vec3(line, 13),
         high: vec3(line, 16),

@@ -26,7 +26,7 @@ fn print_word(text: &[u8], k: u64) {
     say(&text[from..to]);
 }
 
-pub fn print(operation: u64) {
+pub(crate) fn print(operation: u64) {
     print_word(
         b"unknown sqrt ceil round sin sincos atan2 acos hypot dot cross sum difference negation times dominant_axis rotation frame apply apply_vector turn unit per_turn reversed sweep at inner_points extend_bounds",
         operation,
