@@ -9,7 +9,7 @@ use lib.ListN.{length, take, drop, set, getD, length-append, length-drop}
 use lib.Seq.{drop-drop, take-at, drop-at, drop-cons, take-suc, set-at, sets-eq, length-take-le}
 use lib.Ieee.{Float, binary64, mul, div}
 use Rattle.checked.specs.Refusals.{ROW-TOO-SHORT}
-use Rattle.checked.specs.Checked.{Checked, first, nine, eight, given, Due, due, refused, settled, unless}
+use Rattle.checked.specs.Checked.{Checked, first, Due, due, refused, settled, unless}
 use lib.Dec.{leb}
 use Rattle.checked.specs.Laws.{first-zero, settled-some, settled-none, ok, rules as checked-rules}
 use borrow.Author.Tests.{le-leb, lt-leb}
@@ -98,7 +98,7 @@ angle turn n k = div binary64 (mul binary64 turn (float k)) (float n)
 -- the angle is noted where its sine is due
 pub rimAt-refusal : (rim : Rim) (turn : Float) (n k : ℕ) → rimAtC rim turn n k .refusal ≡ rimC rim (angle turn n k) .refusal
 unfolding rimAtC
-rimAt-refusal rim turn n k = simp (rim-refusal, checked-rules, vectors-rules)
+rimAt-refusal rim turn n k = simp (rim-refusal, checked-rules)
 
 -- ---- one more number copied behind the first i
 pub copied : (buf row : List Float) (i : ℕ) (d : Float) → i < length buf → i < length row → set (take i buf ++ drop i row) i (getD buf i d) ≡ take (i + 1) buf ++ drop (i + 1) row

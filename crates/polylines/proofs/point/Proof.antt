@@ -1,6 +1,6 @@
 use borrow.Author.Needs.{needs}
 use Rattle.polylines.specs.Rims.{rimC}
-use Rattle.checked.specs.Laws.{first-assoc, zero-first}
+use Rattle.checked.specs.Laws.{first-assoc}
 use Rattle.polylines.specs.Laws.{rim-refusal}
 use mathlib.Core.Path.{sym, _∙_}
 use Rattle.polylines.proofs.point.Statement.{statement}
@@ -26,7 +26,7 @@ noted-requires c κs = search needs
 
 returns : tie.Need-returns
 unfolding rimC
-returns c = ((simp (c .noted .ensures, c .before .plus2 .ensures, c .before .before .times2 .ensures, c .before .before .before .plus .ensures, c .before .before .before .before .times .ensures, c .before .before .before .before .before .sincos .ensures .0, c .before .before .before .before .before .sincos .ensures .1 .0, c .before .before .before .before .before .sincos .ensures .1 .1, first-assoc, zero-first)) ∙ sym (rim-refusal (c .before .before .before .before .before .before .args .rim) (c .before .before .before .before .before .before .args .t)), simp (c .before .plus2 .ensures, c .before .before .times2 .ensures, c .before .before .before .plus .ensures, c .before .before .before .before .times .ensures, c .before .before .before .before .before .sincos .ensures .1 .0, c .before .before .before .before .before .sincos .ensures .1 .1))
+returns c = ((simp (c .noted .ensures, c .before .plus2 .ensures, c .before .before .times2 .ensures, c .before .before .before .plus .ensures, c .before .before .before .before .times .ensures, c .before .before .before .before .before .sincos .ensures .0, c .before .before .before .before .before .sincos .ensures .1 .0, c .before .before .before .before .before .sincos .ensures .1 .1, first-assoc)) ∙ sym (rim-refusal (c .before .before .before .before .before .before .args .rim) (c .before .before .before .before .before .before .args .t)), simp (c .before .plus2 .ensures, c .before .before .times2 .ensures, c .before .before .before .plus .ensures, c .before .before .before .before .times .ensures, c .before .before .before .before .before .sincos .ensures .1 .0, c .before .before .before .before .before .sincos .ensures .1 .1))
 
 pub point-spec : {M : Type 1} → statement M
 point-spec =

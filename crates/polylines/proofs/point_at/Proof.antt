@@ -1,6 +1,5 @@
 use borrow.Author.Needs.{needs}
 use Rattle.polylines.specs.Rims.{rimAtC}
-use Rattle.checked.specs.Laws.{first-assoc, zero-first}
 use Rattle.polylines.specs.Laws.{rimAt-refusal}
 use mathlib.Core.Path.{sym, _∙_}
 use Rattle.polylines.proofs.point_at.Statement.{statement}
@@ -17,7 +16,7 @@ point-requires c κs = search needs
 
 returns : tie.Need-returns
 unfolding rimAtC
-returns c = ((simp (c .point .ensures .0, c .point .ensures .1, first-assoc, zero-first)) ∙ sym (rimAt-refusal (c .before .before .before .args .rim) (c .before .before .before .args .turn) (c .before .before .before .args .n) (c .before .before .before .args .k)), simp (c .point .ensures .1))
+returns c = ((simp (c .point .ensures .0)) ∙ sym (rimAt-refusal (c .before .before .before .args .rim) (c .before .before .before .args .turn) (c .before .before .before .args .n) (c .before .before .before .args .k)), simp (c .point .ensures .1))
 
 pub point-at-spec : {M : Type 1} → statement M
 point-at-spec = tie.close (tie.spec int-to-float-point int-to-float-point-2 point-requires returns)
