@@ -46,7 +46,7 @@ def contracts(crate):
 
 def contracts_of(module, text):
     out, kind = {}, ''
-    for m in re.finditer(r'^(?:impl (\w+) \{|\}|( *)(?:pub )?(?:extern "C" )?fn (\w+)\(([^{]*?))$(?=((?:\n +(?:requires|ensures)?.*\{.*\}$)*))', text, re.M):
+    for m in re.finditer(r'^(?:impl (\w+) \{|\}|( *)(?:pub )?(?:extern "C" )?fn (\w+)(?:<[^>]*>)?\(([^{}]*?\)(?: -> [^\n{]*)?))$(?=((?:\n +(?:requires|ensures)?.*\{.*\}$)*))', text, re.M):
         if m.group(3):
             result = re.search(r'-> (.*?)\s*$', m.group(4))
             path = '::'.join(filter(None, [module, kind if m.group(2) else '', m.group(3)]))
@@ -60,7 +60,7 @@ def unfoldables(crate, own):
     out, d = {}, f'crates/{crate}/specs'
     for f in os.listdir(d) if os.path.isdir(d) else []:
         mod = (f'Rattle.{crate}.specs.' if own else f'Rattle.{crate}.specs.') + f[:-5]
-        for name in re.findall(r'^unfoldable pub (\S+) :', read(f'{d}/{f}'), re.M):
+        for name in re.findall(r'^ *unfoldable pub (\S+) :', read(f'{d}/{f}'), re.M):
             out[name] = mod
     return out
 
@@ -137,7 +137,7 @@ def facts(way, called, ensured, refusals, result_of=''):
                 if refusals or '.refusal ' not in clause:
                     numbers = ('u16', 'u32', 'u64', 'usize') + (() if result_of == 'bool' else ('bool',))
                     back = '← ' if result in numbers and '≡' in clause else ''
-                    out.append(f'{back}{path} .{field} .ensures' + (f' .{i}' if len(clauses) > 1 else ''))
+                    out.append(f'{back}{path} .{field} .ensures' + ' .1' * i + (' .0' if i < len(clauses) - 1 else ''))
     return out
 
 def main():
@@ -149,12 +149,16 @@ def main():
         ensured.update(contracts(c))
     own = unfoldables(crate, True)
     rules = []
-    for c in below + [crate]:
+    direct = dict(re.findall(r'^(\w+):(.*)$', read('crates.txt'), re.M)).get(crate, '').split()
+    for c in [c for c in below if c in direct] + [crate]:
         if re.search(r'^pub ruleset rules\b|^ruleset rules\b', read(f'crates/{c}/specs/Laws.antt'), re.M):
             mod = f'Rattle.{c}.specs.Laws' if c == crate else f'Rattle.{c}.specs.Laws'
             rules.append((f'use {mod}.{{rules as {c}-rules}}', f'{c}-rules'))
     # laws NAME-refusal of the definitions NAMEC: which notes suffice
-    laws = re.findall(r'^pub (\S+-refusal) :', read(f'crates/{crate}/specs/Laws.antt'), re.M)
+    laws = {}
+    for f in sorted(os.listdir(f'crates/{crate}/specs')) if os.path.isdir(f'crates/{crate}/specs') else []:
+        for l in re.findall(r'^pub (\S+-refusal) :', read(f'crates/{crate}/specs/{f}'), re.M):
+            laws[l] = f[:-5]
     env = dict(os.environ, RT_CUT='0')
     said = subprocess.run(['rt', 'dev', crate], stdout=subprocess.PIPE, stderr=subprocess.STDOUT, text=True, env=env).stdout
     subprocess.run(['rt', 'dev', crate, '--generated', 'target/fill'], capture_output=True, env=env)
@@ -181,7 +185,7 @@ def main():
         ways, called = places(lts), callees(lts)
         clauses, result = ensured.get(f'{crate}::' + fn.replace('/', '::'), ([''], ''))
         unfold = [n for n in own if any(re.search(r'(?<![\w-])' + re.escape(n) + r'(?![\w-])', c) for c in clauses)]
-        used_rules, used_laws = False, set()
+        used_rules, used_laws, settled = False, set(), set()
         def answer(m):
             nonlocal used_rules
             need, rest = m.group(1), m.group(2)
@@ -190,6 +194,10 @@ def main():
             head = f'unfolding {" ".join(unfold)}\n' if unfold else ''
             if not facts(ways.get(need, []), called, ensured, True, result):
                 return head + f'{need} {rest} = search needs'
+            if len(clauses) == 1 and re.search(r'≡ settled ', clauses[0]) and len(ways[need]) and ways[need][0][2] in (['taken'], ['left']):
+                path, field, own_ = ways[need][0]
+                settled.add(own_[0])
+                return head + f'{need} {rest} = ' + (f'simp ({path} .{field} .taken, settled-none)' if own_[0] == 'taken' else f'sym (settled-some _ _ ({path} .{field} .left))')
             parts = []
             for clause in clauses:
                 known = facts(ways[need], called, ensured, '.value ' not in clause, result)
@@ -216,11 +224,14 @@ def main():
             uses += [u for u, _ in rules]
         if used_laws:
             uses.append('use Rattle.checked.specs.Laws.{first-assoc, zero-first}')
-            uses.append(f'use Rattle.{crate}.specs.Laws.{{{", ".join(sorted(used_laws))}}}')
+            for f in sorted({laws[l] for l in used_laws}):
+                uses.append(f'use Rattle.{crate}.specs.{f}.{{{", ".join(sorted(l for l in used_laws if laws[l] == f))}}}')
+        if settled:
+            uses.append('use Rattle.checked.specs.Laws.{settled-some, settled-none}' if crate != 'checked' else 'use Rattle.checked.specs.Laws.{settled-some, settled-none}')
         tests = [l for l in ('lt-ltb', 'le-ltb', 'le-leb', 'lt-leb', 'eq-eqb', 'ne-eqb') if l + ' _ _' in text]
         if tests:
             uses.append('use borrow.Author.Tests.{' + ', '.join(tests) + '}')
-        paths = (['sym', '_∙_'] if '∙' in text else []) + (['refl'] if 'refl' in text else [])
+        paths = (['sym', '_∙_'] if '∙' in re.sub(r'use .*', '', text) and '∙ ' in text else ['sym'] if 'sym (' in text else []) + (['refl'] if 'refl' in text else [])
         if paths:
             uses.append('use mathlib.Core.Path.{' + ', '.join(paths) + '}')
         os.makedirs(os.path.dirname(path), exist_ok=True)

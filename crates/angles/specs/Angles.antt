@@ -2,12 +2,8 @@
 use mathlib.Core.Bool.{cond}
 use lib.Ieee.{Float, binary64, le, ofBits}
 use Rattle.checked.specs.Checked.{Checked, first, _>>=_, given, finite, num, _⊕_, _⊖_}
+use Rattle.checked.specs.Numbers.{zero, tau}
 use Rattle.arctangent.specs.Arctangent.{atan2}
-use Rattle.vectors.specs.Vectors.{zero}
-
--- 2π rounded, 6.283185307179586
-abbrev pub tau : Float
-tau = ofBits binary64 0x4019_21fb_5444_2d18
 
 -- the angle of the direction (x, y), in [−π, π]
 abbrev pub atan2C : Checked Float → Checked Float → Checked Float

@@ -5,8 +5,8 @@ use mathlib.Core.Bool.{Bool, true, false, cond}
 use lib.Ieee.{Float, binary64, add, sub, le}
 use Rattle.checked.specs.Checked.{Checked, first, nine, finite, num, given, _⊕_, _⊖_}
 use Rattle.checked.specs.Laws.{first-assoc, rules as checked-rules}
-use Rattle.vectors.specs.Vectors.{zero}
-use Rattle.angles.specs.Angles.{tau, atan2C, aheadC, backC}
+use Rattle.checked.specs.Numbers.{zero, tau}
+use Rattle.angles.specs.Angles.{atan2C, aheadC, backC}
 
 pub ahead-nine : (t : Float) → first (nine t) (aheadC t .refusal) ≡ nine (aheadC t .value)
 unfolding aheadC

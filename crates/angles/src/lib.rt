@@ -1,9 +1,7 @@
 // Angles turned about a centre, for numbers of any size. A turn that is not finite is for the caller to note.
 ghost use mathlib.Core.Path.{_≡_};
 ghost use Rattle.angles.specs.Angles.{aheadC, backC};
-
-// 2π, rounded.
-pub const TAU: f64 = 6.283185307179586;
+use checked::TAU;
 
 // A turn counterclockwise, in (0, 2π].
 pub fn ahead(t: f64) -> f64

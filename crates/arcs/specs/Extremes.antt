@@ -3,8 +3,9 @@ use mathlib.Core.Bool.{cond}
 use mathlib.Core.List.{List, [], _∷_}
 use lib.Ieee.{Float, lt, neg}
 use Rattle.checked.specs.Checked.{Checked, first, _>>=_, given, num, _⊗_, _⊘_}
+use Rattle.checked.specs.Numbers.{zero, one}
 use Rattle.vectors.specs.declared.Vec3.{Vec3}
-use Rattle.vectors.specs.Vectors.{zero, one, space, vec, _⊞_, _⊠_}
+use Rattle.vectors.specs.Vectors.{space, vec, _⊞_, _⊠_}
 use Rattle.directions.specs.Directions.{lengthC, acrossC}
 use Rattle.boxes.specs.Boxes.{_⧺_}
 use Rattle.arcs.specs.declared.Arc.{Arc}

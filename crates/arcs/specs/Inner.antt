@@ -5,12 +5,10 @@ use mathlib.Core.List.{List}
 use lib.Ieee.{Float, lt}
 use Rattle.checked.specs.Refusals.{OUT-OF-RANGE, BAD-TOLERANCE}
 use Rattle.checked.specs.Checked.{Checked, first, _>>=_, given, finite, num, within, _⊗_, _⊘_, Due, answered, unless}
+use Rattle.checked.specs.Numbers.{zero, tau, float}
 use Rattle.vectors.specs.declared.Vec3.{Vec3}
-use Rattle.vectors.specs.Vectors.{zero}
-use Rattle.angles.specs.Angles.{tau}
 use Rattle.chords.specs.Chords.{perTurnC, countC}
-use Rattle.polylines.specs.Rows.{upTo, fits, after}
-use Rattle.polylines.specs.Rims.{float}
+use Rattle.polylines.specs.Rows.{upTo, fits, andThen}
 use Rattle.arcs.specs.declared.Arc.{Arc}
 use Rattle.arcs.specs.declared.Cut.{Cut}
 use Rattle.arcs.specs.Arcs.{sweepC, atC}
@@ -39,4 +37,4 @@ unfoldable pub innerPointsDue : Arc → Vec3 → Vec3 → Float → ℕ → Due 
 innerPointsDue arc from to chord room =
     unless OUT-OF-RANGE (endsWithin arc from to && within chord)
     (unless BAD-TOLERANCE (not (lt chord zero))
-    (after (answered (cutC arc from to chord)) (λ cut. innersDue arc from cut room)))
+    (andThen (answered (cutC arc from to chord)) (λ cut. innersDue arc from cut room)))

@@ -6,16 +6,16 @@ use mathlib.Core.List.{List}
 use lib.Ieee.{Float, binary64, mul, div}
 use Rattle.checked.specs.Checked.{Checked, first, nine, isFinite, settled}
 use Rattle.checked.specs.Laws.{ok, nine-ok, ok-and, opened as checked-opened, rules as checked-rules}
+use Rattle.checked.specs.Numbers.{tau, float}
 use Rattle.rounding.specs.Laws.{rounded}
 use Rattle.vectors.specs.declared.Vec3.{Vec3}
 use Rattle.vectors.specs.Vectors.{isFinite3, nines, minusC, crossC}
 use Rattle.vectors.specs.Laws.{nines-ok}
 use Rattle.directions.specs.Directions.{lengthC, acrossC}
-use Rattle.angles.specs.Angles.{tau}
 use Rattle.chords.specs.Chords.{perTurnC, countC}
 use Rattle.polylines.specs.declared.Rim.{Rim}
 use Rattle.polylines.specs.Rows.{upTo, fits}
-use Rattle.polylines.specs.Rims.{float, rimC, rimAtC, allRefusal, allDue}
+use Rattle.polylines.specs.Rims.{rimC, rimAtC, allRefusal, allDue}
 use Rattle.polylines.specs.Laws.{upTo-same, upTo-before, rim-refusal}
 use Rattle.arcs.specs.declared.Arc.{Arc}
 use Rattle.arcs.specs.declared.Cut.{Cut}

@@ -8,8 +8,9 @@ use lib.Ieee.{Float, lt, neg}
 use lib.Ieee.Fits.{and-l, and-r}
 use Rattle.checked.specs.Checked.{Checked, first, _>>=_, given, nine, eight, isFinite}
 use Rattle.checked.specs.Laws.{first-zero, zero-first, ok, nine-ok, ok-and, rules as checked-rules}
+use Rattle.checked.specs.Numbers.{zero, one}
 use Rattle.vectors.specs.declared.Vec3.{Vec3}
-use Rattle.vectors.specs.Vectors.{zero, one, isFinite3, nines, minusC, crossC, dotC}
+use Rattle.vectors.specs.Vectors.{isFinite3, nines, minusC, crossC, dotC}
 use Rattle.vectors.specs.Laws.{nines-ok, minus-left, dot-left, dot-right, rules as vectors-rules}
 use Rattle.directions.specs.Directions.{lengthC, acrossC}
 use Rattle.directions.specs.Laws.{rules as directions-rules}

@@ -8,8 +8,9 @@ use lib.Dec.{T}
 use lib.Ieee.{Float, lt, neg}
 use Rattle.checked.specs.Checked.{Checked, first, given}
 use Rattle.checked.specs.Laws.{ok, first-none}
+use Rattle.checked.specs.Numbers.{zero, one}
 use Rattle.vectors.specs.declared.Vec3.{Vec3}
-use Rattle.vectors.specs.Vectors.{zero, one, isFinite3, minusC}
+use Rattle.vectors.specs.Vectors.{isFinite3, minusC}
 use Rattle.vectors.specs.Laws.{minus-left}
 use Rattle.directions.specs.Directions.{lengthC, acrossC}
 use Rattle.boxes.specs.Boxes.{Sound, AllFinite, _⧺_}

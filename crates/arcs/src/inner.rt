@@ -10,7 +10,7 @@ use crate::Cut;
 use crate::Written;
 use crate::formula::spoke;
 use crate::formula::sweep;
-use angles::TAU;
+use checked::TAU;
 use checked::earlier;
 use checked::note;
 use chords::formula::count;

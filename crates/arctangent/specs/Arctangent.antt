@@ -5,73 +5,74 @@ use mathlib.Core.Bool.{Bool, cond, _&&_, _||_}
 use lib.Dec.{leb, ltb, eqb}
 use lib.Ieee.{Float, neg, isNan}
 use Rattle.checked.specs.Patterns.{bits, high-word}
-use Rattle.words.specs.Words.{zero, one, threeHalves, two, three, four, _+ᶠ_, _-ᶠ_, _*ᶠ_, _/ᶠ_, if_then_else_, float, size, sign, choose, signed, fabs}
+use Rattle.checked.specs.Numbers.{zero, one, threeHalves, two, three, four, literal, pi}
+use Rattle.words.specs.Words.{_+ᶠ_, _-ᶠ_, _*ᶠ_, _/ᶠ_, if_then_else_, size, sign, choose, signed, fabs}
 use Rattle.arctangent.specs.declared.Reduced.{Reduced}
 
 -- ---- atan.rs
 
 -- ATANHI and ATANLO: the arctangents of 1/2, 1, 3/2 and infinity, in two parts each
 abbrev ATANHI0 : Float
-ATANHI0 = float 0x3FDDAC67_0561BB4F  -- 4.63647609000806093515e-01
+ATANHI0 = literal 0x3FDDAC67_0561BB4F  -- 4.63647609000806093515e-01
 
 abbrev ATANHI1 : Float
-ATANHI1 = float 0x3FE921FB_54442D18  -- 7.85398163397448278999e-01
+ATANHI1 = literal 0x3FE921FB_54442D18  -- 7.85398163397448278999e-01
 
 abbrev ATANHI2 : Float
-ATANHI2 = float 0x3FEF730B_D281F69B  -- 9.82793723247329054082e-01
+ATANHI2 = literal 0x3FEF730B_D281F69B  -- 9.82793723247329054082e-01
 
 abbrev ATANHI3 : Float
-ATANHI3 = float 0x3FF921FB_54442D18  -- 1.57079632679489655800e+00
+ATANHI3 = literal 0x3FF921FB_54442D18  -- 1.57079632679489655800e+00
 
 abbrev ATANLO0 : Float
-ATANLO0 = float 0x3C7A2B7F_222F65E2  -- 2.26987774529616870924e-17
+ATANLO0 = literal 0x3C7A2B7F_222F65E2  -- 2.26987774529616870924e-17
 
 abbrev ATANLO1 : Float
-ATANLO1 = float 0x3C81A626_33145C07  -- 3.06161699786838301793e-17
+ATANLO1 = literal 0x3C81A626_33145C07  -- 3.06161699786838301793e-17
 
 abbrev ATANLO2 : Float
-ATANLO2 = float 0x3C700788_7AF0CBBD  -- 1.39033110312309984516e-17
+ATANLO2 = literal 0x3C700788_7AF0CBBD  -- 1.39033110312309984516e-17
 
 abbrev ATANLO3 : Float
-ATANLO3 = float 0x3C91A626_33145C07  -- 6.12323399573676603587e-17
+ATANLO3 = literal 0x3C91A626_33145C07  -- 6.12323399573676603587e-17
 
 -- AT: the coefficients of the series
 abbrev AT0 : Float
-AT0 = float 0x3FD55555_5555550D  -- 3.33333333333329318027e-01
+AT0 = literal 0x3FD55555_5555550D  -- 3.33333333333329318027e-01
 
 abbrev AT1 : Float
-AT1 = float 0xBFC99999_9998EBC4  -- -1.99999999998764832476e-01
+AT1 = literal 0xBFC99999_9998EBC4  -- -1.99999999998764832476e-01
 
 abbrev AT2 : Float
-AT2 = float 0x3FC24924_920083FF  -- 1.42857142725034663711e-01
+AT2 = literal 0x3FC24924_920083FF  -- 1.42857142725034663711e-01
 
 abbrev AT3 : Float
-AT3 = float 0xBFBC71C6_FE231671  -- -1.11111104054623557880e-01
+AT3 = literal 0xBFBC71C6_FE231671  -- -1.11111104054623557880e-01
 
 abbrev AT4 : Float
-AT4 = float 0x3FB745CD_C54C206E  -- 9.09088713343650656196e-02
+AT4 = literal 0x3FB745CD_C54C206E  -- 9.09088713343650656196e-02
 
 abbrev AT5 : Float
-AT5 = float 0xBFB3B0F2_AF749A6D  -- -7.69187620504482999495e-02
+AT5 = literal 0xBFB3B0F2_AF749A6D  -- -7.69187620504482999495e-02
 
 abbrev AT6 : Float
-AT6 = float 0x3FB10D66_A0D03D51  -- 6.66107313738753120669e-02
+AT6 = literal 0x3FB10D66_A0D03D51  -- 6.66107313738753120669e-02
 
 abbrev AT7 : Float
-AT7 = float 0xBFADDE2D_52DEFD9A  -- -5.83357013379057348645e-02
+AT7 = literal 0xBFADDE2D_52DEFD9A  -- -5.83357013379057348645e-02
 
 abbrev AT8 : Float
-AT8 = float 0x3FA97B4B_24760DEB  -- 4.97687799461593236017e-02
+AT8 = literal 0x3FA97B4B_24760DEB  -- 4.97687799461593236017e-02
 
 abbrev AT9 : Float
-AT9 = float 0xBFA2B444_2C6A6C2F  -- -3.65315727442169155270e-02
+AT9 = literal 0xBFA2B444_2C6A6C2F  -- -3.65315727442169155270e-02
 
 abbrev AT10 : Float
-AT10 = float 0x3F90AD3A_E322DA11  -- 1.62858201153657823623e-02
+AT10 = literal 0x3F90AD3A_E322DA11  -- 1.62858201153657823623e-02
 
 -- from 2^66 up, infinity and NaN: a quarter turn, or the NaN
 abbrev pub atanHuge : Float → Float
-atanHuge x = if isNan x then x else signed (sign x) (ATANHI3 +ᶠ float 0x03800000)
+atanHuge x = if isNan x then x else signed (sign x) (ATANHI3 +ᶠ literal 0x03800000)
 
 -- the new x, with ATANHI and ATANLO of its id: id 0, from 7/16 to 11/16
 abbrev atHalf : Float → Reduced
@@ -128,12 +129,9 @@ atan x =
 
 -- ---- atan2.rs
 
--- π, and what it lacks of the true one
-abbrev pub PI : Float
-PI = float 0x400921FB_54442D18  -- 3.1415926535897931160E+00
-
+-- what π rounded lacks of the true one
 abbrev PI-LO : Float
-PI-LO = float 0x3CA1A626_33145C07  -- 1.2246467991473531772E-16
+PI-LO = literal 0x3CA1A626_33145C07  -- 1.2246467991473531772E-16
 
 -- x is 1
 unfoldable pub isOne : Float → Bool
@@ -141,19 +139,19 @@ isOne x = eqb (bits x) 0x3ff00000_00000000
 
 -- y is 0
 abbrev pub atZeroY : ℕ → Float → Float
-atZeroY m y = choose m y y PI (neg PI)
+atZeroY m y = choose m y y pi (neg pi)
 
 -- x is 0, or y/x is above 2^64 in magnitude: a quarter turn by the sign of y, the lowest bit of m
 abbrev pub quarterTurn : ℕ → Float
-quarterTurn m = if eqb (m % 2) 0 then PI /ᶠ two else neg PI /ᶠ two
+quarterTurn m = if eqb (m % 2) 0 then pi /ᶠ two else neg pi /ᶠ two
 
 -- x and y are infinite
 abbrev pub bothInfinite : ℕ → Float
-bothInfinite m = choose m (PI /ᶠ four) (neg PI /ᶠ four) (three *ᶠ PI /ᶠ four) (neg three *ᶠ PI /ᶠ four)
+bothInfinite m = choose m (pi /ᶠ four) (neg pi /ᶠ four) (three *ᶠ pi /ᶠ four) (neg three *ᶠ pi /ᶠ four)
 
 -- only x is infinite
 abbrev pub infiniteX : ℕ → Float
-infiniteX m = choose m zero (neg zero) PI (neg PI)
+infiniteX m = choose m zero (neg zero) pi (neg pi)
 
 -- x is infinite
 abbrev pub atInfiniteX : ℕ → ℕ → Float
@@ -169,7 +167,7 @@ ratioAngle y x = if tooFlat y x then zero else atan (fabs (y /ᶠ x))
 
 -- the angle that z stands for, by the signs in m
 abbrev pub inQuadrant : ℕ → Float → Float
-inQuadrant m z = choose m z (neg z) (PI -ᶠ (z -ᶠ PI-LO)) ((z -ᶠ PI-LO) -ᶠ PI)
+inQuadrant m z = choose m z (neg z) (pi -ᶠ (z -ᶠ PI-LO)) ((z -ᶠ PI-LO) -ᶠ pi)
 
 -- y/x is above 2^64 in magnitude, or y is infinite
 abbrev tooSteep : ℕ → ℕ → Bool

@@ -3,7 +3,8 @@ use Prim.Native.Nat.{ℕ}
 use mathlib.Core.Path.{_≡_, refl}
 use mathlib.Core.List.{List, [], _∷_, map}
 use lib.Ieee.{Float, add, sub, mul, div, neg, isNan, toBits, ofBits}
-use Rattle.words.specs.Words.{float, choose, signed, fabs}
+use Rattle.checked.specs.Numbers.{literal}
+use Rattle.words.specs.Words.{choose, signed, fabs}
 use Rattle.words.specs.Special.{minus, nought, least, one, greatest, infinity, not-a-number, π, π/2, π/4, 3π/4}
 use Rattle.arctangent.specs.Arctangent.{reduced, atan, isOne, ratioAngle, angle, atan2}
 
@@ -72,10 +73,10 @@ answered =
     ∷ []
 
 computed : List Row → List Float
-computed rows = map (λ r. atan2 (float (r .y)) (float (r .x))) rows
+computed rows = map (λ r. atan2 (literal (r .y)) (literal (r .x))) rows
 
 due : List Row → List Float
-due rows = map (λ r. float (r .answer)) rows
+due rows = map (λ r. literal (r .answer)) rows
 
 special-values : computed special ≡ due special
 unfolding special computed due atan2 angle isOne ratioAngle atan reduced fabs choose signed add sub mul div neg toBits ofBits isNan
@@ -86,7 +87,7 @@ unfolding answered computed due atan2 angle isOne ratioAngle atan reduced fabs c
 answers-of-libm = refl
 
 -- the arctangents of +0, -0, the infinities, a NaN and 1
-atans : map (λ p. atan (float p)) (nought ∷ minus nought ∷ infinity ∷ minus infinity ∷ not-a-number ∷ one ∷ [])
-    ≡ map float (nought ∷ minus nought ∷ π/2 ∷ minus π/2 ∷ not-a-number ∷ π/4 ∷ [])
+atans : map (λ p. atan (literal p)) (nought ∷ minus nought ∷ infinity ∷ minus infinity ∷ not-a-number ∷ one ∷ [])
+    ≡ map literal (nought ∷ minus nought ∷ π/2 ∷ minus π/2 ∷ not-a-number ∷ π/4 ∷ [])
 unfolding atan reduced fabs signed add sub mul div neg toBits ofBits isNan
 atans = refl

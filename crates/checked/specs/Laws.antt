@@ -92,6 +92,26 @@ absorbs x u r h = cases (isFinite x) (isFinite u) (holds (isFinite x) (isFinite 
 pub ends : (x u : Float) → tells (isFinite u) (isFinite x) ≡ true → first (nine x) (nine u) ≡ nine u
 ends x u h = simp first-zero at (absorbs x u 0 h)
 
+-- two notes may change places
+pub swap : (x y : Float) (r : ℕ) → first (nine x) (first (nine y) r) ≡ first (nine y) (first (nine x) r)
+unfolding nine first
+swap x y r = cases (isFinite x) (isFinite y)
+  where
+    cases : (p q : Bool) → first (cond p 0 NOT-FINITE) (first (cond q 0 NOT-FINITE) r) ≡ first (cond q 0 NOT-FINITE) (first (cond p 0 NOT-FINITE) r)
+    cases true q = refl
+    cases false true = refl
+    cases false false = refl
+
+pub swap-ends : (x y : Float) → first (nine x) (nine y) ≡ first (nine y) (nine x)
+swap-ends x y = simp first-zero at (swap x y 0)
+
+-- what need not be noted, by tests in place of numbers: p holds where q, noted next, does
+pub absorb : (p q : Bool) → (T q → T p) → first (ok p) (ok q) ≡ ok q
+unfolding ok first
+absorb true q h = refl
+absorb false true h = absurd (h tt)
+absorb false false h = refl
+
 pub itself : (p : Bool) → tells p p ≡ true
 itself p = under p p (λ h. h)
 

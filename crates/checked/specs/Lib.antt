@@ -1,4 +1,5 @@
 pub mod Refusals
+pub mod Numbers
 pub mod Checked
 pub mod Laws
 pub mod Patterns

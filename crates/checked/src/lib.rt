@@ -52,6 +52,13 @@ pub enum Number {
     Refused(u8),
 }
 
+// π, 2π and π/4, rounded.
+pub const PI: f64 = 3.141592653589793;
+
+pub const TAU: f64 = 6.283185307179586;
+
+pub const FRAC_PI_4: f64 = 0.7853981633974483;
+
 // The largest magnitude of a number handed in.
 const LIMIT: f64 = 1048576.0;
 

@@ -4,14 +4,10 @@ use mathlib.Core.Bool.{Bool, not, cond, _&&_}
 use lib.Ieee.{Float, binary64, div, lt, le, ofBits, toUnsigned}
 use Rattle.checked.specs.Refusals.{OUT-OF-RANGE, BAD-TOLERANCE, COUNT-TOO-LARGE}
 use Rattle.checked.specs.Checked.{Checked, first, _>>=_, given, finite, num, within, _⊖_, _⊘_, Due, answered, unless}
+use Rattle.checked.specs.Numbers.{zero, one, pi}
 use Rattle.rounding.specs.Whole.{ceil}
 use Rattle.roots.specs.Roots.{acos}
 use Rattle.order.specs.Least.{greatest}
-use Rattle.vectors.specs.Vectors.{zero, one}
-
--- π rounded, 3.141592653589793
-abbrev pub pi : Float
-pi = ofBits binary64 0x4009_21fb_5444_2d18
 
 -- SEGMENTS: a full turn has at least 12 chords and at most 64
 abbrev pub fewest : Float

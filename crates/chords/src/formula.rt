@@ -4,13 +4,12 @@ ghost use Rattle.chords.specs.Chords.{quotientC, chordsC, clamped, perTu
 use crate::CheckedCount;
 use checked::COUNT_TOO_LARGE;
 use checked::CheckedNumber;
+use checked::PI;
 use checked::earlier;
 use checked::note;
 use order::greatest;
 use roots::acos;
 use rounding::ceil;
-
-const PI: f64 = 3.141592653589793;
 
 const FEWEST: f64 = 12.0;
 

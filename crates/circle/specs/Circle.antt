@@ -8,29 +8,30 @@ use lib.Dec.{leb, ltb, eqb}
 use lib.Ieee.{Float, neg, toSigned}
 use Rattle.checked.specs.Checked.{Checked, first, nine, eight, within}
 use Rattle.checked.specs.Patterns.{high-word}
-use Rattle.words.specs.Words.{zero, half, one, two, three, four, _+ᶠ_, _-ᶠ_, _*ᶠ_, if_then_else_, float, exponent, sign, choose}
+use Rattle.checked.specs.Numbers.{zero, half, one, two, three, four, literal}
+use Rattle.words.specs.Words.{_+ᶠ_, _-ᶠ_, _*ᶠ_, if_then_else_, exponent, sign, choose}
 use Rattle.circle.specs.declared.Rest.{Rest}
 use Rattle.circle.specs.declared.Sines.{Sines}
 
 -- ---- k_sin.rs
 
 abbrev S1 : Float
-S1 = float 0xBFC55555_55555549  -- -1.66666666666666324348e-01
+S1 = literal 0xBFC55555_55555549  -- -1.66666666666666324348e-01
 
 abbrev S2 : Float
-S2 = float 0x3F811111_1110F8A6  -- 8.33333333332248946124e-03
+S2 = literal 0x3F811111_1110F8A6  -- 8.33333333332248946124e-03
 
 abbrev S3 : Float
-S3 = float 0xBF2A01A0_19C161D5  -- -1.98412698298579493134e-04
+S3 = literal 0xBF2A01A0_19C161D5  -- -1.98412698298579493134e-04
 
 abbrev S4 : Float
-S4 = float 0x3EC71DE3_57B1FE7D  -- 2.75573137070700676789e-06
+S4 = literal 0x3EC71DE3_57B1FE7D  -- 2.75573137070700676789e-06
 
 abbrev S5 : Float
-S5 = float 0xBE5AE5E6_8A2B9CEB  -- -2.50507602534068634195e-08
+S5 = literal 0xBE5AE5E6_8A2B9CEB  -- -2.50507602534068634195e-08
 
 abbrev S6 : Float
-S6 = float 0x3DE5D93A_5ACFD57C  -- 1.58969099521155010221e-10
+S6 = literal 0x3DE5D93A_5ACFD57C  -- 1.58969099521155010221e-10
 
 -- r, by z
 abbrev sineSeries : Float → Float
@@ -57,22 +58,22 @@ kSin x y =
 -- ---- k_cos.rs
 
 abbrev C1 : Float
-C1 = float 0x3FA55555_5555554C  -- 4.16666666666666019037e-02
+C1 = literal 0x3FA55555_5555554C  -- 4.16666666666666019037e-02
 
 abbrev C2 : Float
-C2 = float 0xBF56C16C_16C15177  -- -1.38888888888741095749e-03
+C2 = literal 0xBF56C16C_16C15177  -- -1.38888888888741095749e-03
 
 abbrev C3 : Float
-C3 = float 0x3EFA01A0_19CB1590  -- 2.48015872894767294178e-05
+C3 = literal 0x3EFA01A0_19CB1590  -- 2.48015872894767294178e-05
 
 abbrev C4 : Float
-C4 = float 0xBE927E4F_809C52AD  -- -2.75573143513906633035e-07
+C4 = literal 0xBE927E4F_809C52AD  -- -2.75573143513906633035e-07
 
 abbrev C5 : Float
-C5 = float 0x3E21EE9E_BDB4B1C4  -- 2.08757232129817482790e-09
+C5 = literal 0x3E21EE9E_BDB4B1C4  -- 2.08757232129817482790e-09
 
 abbrev C6 : Float
-C6 = float 0xBDA8FAE9_BE8838D4  -- -1.13596475577881948265e-11
+C6 = literal 0xBDA8FAE9_BE8838D4  -- -1.13596475577881948265e-11
 
 -- the cosine of x + y
 abbrev pub kCos : Float → Float → Float
@@ -88,30 +89,30 @@ kCos x y =
 
 -- 1.5 / EPS, which is 1.5 times 2^52
 abbrev pub TO-INT : Float
-TO-INT = float 0x43380000_00000000  -- 6755399441055744.0
+TO-INT = literal 0x43380000_00000000  -- 6755399441055744.0
 
 -- 2/π
 abbrev pub INV-PIO2 : Float
-INV-PIO2 = float 0x3FE45F30_6DC9C883  -- 6.36619772367581382433e-01
+INV-PIO2 = literal 0x3FE45F30_6DC9C883  -- 6.36619772367581382433e-01
 
 -- π/2 in three parts of 33 bits, and after each what is then left
 abbrev PIO2-1 : Float
-PIO2-1 = float 0x3FF921FB_54400000  -- 1.57079632673412561417e+00
+PIO2-1 = literal 0x3FF921FB_54400000  -- 1.57079632673412561417e+00
 
 abbrev PIO2-1T : Float
-PIO2-1T = float 0x3DD0B461_1A626331  -- 6.07710050650619224932e-11
+PIO2-1T = literal 0x3DD0B461_1A626331  -- 6.07710050650619224932e-11
 
 abbrev PIO2-2 : Float
-PIO2-2 = float 0x3DD0B461_1A600000  -- 6.07710050630396597660e-11
+PIO2-2 = literal 0x3DD0B461_1A600000  -- 6.07710050630396597660e-11
 
 abbrev PIO2-2T : Float
-PIO2-2T = float 0x3BA3198A_2E037073  -- 2.02226624879595063154e-21
+PIO2-2T = literal 0x3BA3198A_2E037073  -- 2.02226624879595063154e-21
 
 abbrev PIO2-3 : Float
-PIO2-3 = float 0x3BA3198A_2E000000  -- 2.02226624871116645580e-21
+PIO2-3 = literal 0x3BA3198A_2E000000  -- 2.02226624871116645580e-21
 
 abbrev PIO2-3T : Float
-PIO2-3T = float 0x397B839A_252049C1  -- 8.47842766036889956997e-32
+PIO2-3T = literal 0x397B839A_252049C1  -- 8.47842766036889956997e-32
 
 -- The two lowest bits of n, which are all that a caller takes of it; `negsuc k` is -(k + 1).
 abbrev pub quarter : ℤ → ℕ

@@ -8,7 +8,7 @@ use Rattle.checked.specs.Refusals.{ANGLE-TOO-LARGE, NOT-FINITE}
 use Rattle.checked.specs.Checked.{first, nine, eight, isFinite, within}
 use Rattle.checked.specs.PatternLaws.{yes}
 use Rattle.checked.specs.Laws.{within-finite}
-use Rattle.words.specs.Words.{one}
+use Rattle.checked.specs.Numbers.{one}
 use Rattle.words.specs.Signs.{noughtOf}
 use Rattle.circle.specs.Circle.{sine, sines, sineOrZero, sinesOrZeros, sinC, sincosC}
 

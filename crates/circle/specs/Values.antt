@@ -6,7 +6,8 @@ use mathlib.Core.List.{List, [], _∷_, map}
 use lib.Ieee.{Float, add, sub, mul, neg, le, toSigned, toBits, ofBits}
 use Rattle.checked.specs.Refusals.{ANGLE-TOO-LARGE, NOT-FINITE}
 use Rattle.checked.specs.Checked.{Checked, first, isFinite, nine, eight, within}
-use Rattle.words.specs.Words.{float, choose}
+use Rattle.checked.specs.Numbers.{literal}
+use Rattle.words.specs.Words.{choose}
 use Rattle.words.specs.Special.{minus, nought, least, one, greatest, infinity, not-a-number}
 use Rattle.circle.specs.declared.Sines.{Sines}
 use Rattle.circle.specs.Circle.{secondRound, medium, toFive, toNine, remPio2, turnedSine, sine, turnedSines, sines, sineOrZero, sinesOrZeros, sinC, sincosC}
@@ -70,16 +71,16 @@ answered =
     ∷ []
 
 sincos-of : Row → Checked Sines
-sincos-of r = sincosC (float (r .angle))
+sincos-of r = sincosC (literal (r .angle))
 
 sincos-due : Row → Checked Sines
-sincos-due r = record { refusal = r .refusal; value = record { sin = float (r .sin); cos = float (r .cos) } }
+sincos-due r = record { refusal = r .refusal; value = record { sin = literal (r .sin); cos = literal (r .cos) } }
 
 sin-of : Row → Checked Float
-sin-of r = sinC (float (r .angle))
+sin-of r = sinC (literal (r .angle))
 
 sin-due : Row → Checked Float
-sin-due r = record { refusal = r .refusal; value = float (r .sin) }
+sin-due r = record { refusal = r .refusal; value = literal (r .sin) }
 
 special-sincos : map sincos-of special ≡ map sincos-due special
 unfolding special sincos-of sincos-due sin-of sin-due sinesOrZeros sines turnedSines sineOrZero sine turnedSine remPio2 toFive toNine medium secondRound choose first isFinite nine eight within toSigned add sub mul neg le toBits ofBits

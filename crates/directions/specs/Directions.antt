@@ -2,9 +2,10 @@
 use lib.Ieee.{Float, binary64}
 use Rattle.checked.specs.Refusals.{OUT-OF-RANGE}
 use Rattle.checked.specs.Checked.{Checked, first, _>>=_, given, finite, num, _⊘_, Due, answered, unless}
+use Rattle.checked.specs.Numbers.{one}
 use Rattle.rounding.specs.Root.{sqrt}
 use Rattle.vectors.specs.declared.Vec3.{Vec3}
-use Rattle.vectors.specs.Vectors.{one, within3, vec, _⊟_, _⊠_, _⊡_}
+use Rattle.vectors.specs.Vectors.{within3, vec, _⊟_, _⊠_, _⊡_}
 
 -- the square root
 abbrev pub sqrtC : Checked Float → Checked Float

@@ -39,7 +39,7 @@ pub enum Motion {
     Refused(u8),
 }
 
-fn is_within_rigid(m: Rigid) -> bool
+pub fn is_within_rigid(m: Rigid) -> bool
     ensures { λ r. ⌜ r ≡ withinRigid m ⌝ }
 {
     is_within3(m.rot.x) & (is_within3(m.rot.y) & (is_within3(m.rot.z) & is_within3(m.shift)))

@@ -12,6 +12,7 @@ use Rattle.checked.specs.Refusals.{ROW-TOO-SHORT}
 use Rattle.checked.specs.Checked.{Checked, first, Due, due, refused, settled, unless}
 use lib.Dec.{leb}
 use Rattle.checked.specs.Laws.{first-zero, settled-some, settled-none, ok, rules as checked-rules}
+use Rattle.checked.specs.Numbers.{float}
 use borrow.Author.Tests.{le-leb, lt-leb}
 use Rattle.vectors.specs.declared.Vec3.{Vec3}
 use Rattle.vectors.specs.Vectors.{nines}
@@ -19,7 +20,7 @@ use Rattle.vectors.specs.Laws.{rules as vectors-rules}
 use Rattle.circle.specs.Circle.{sincosC}
 use Rattle.polylines.specs.declared.Rim.{Rim}
 use Rattle.polylines.specs.Rows.{upTo, flat, numberOf, partOf, rowAfter, Drawn}
-use Rattle.polylines.specs.Rims.{rimC, rimAtC, float, allRefusal, allDue, pointsDue}
+use Rattle.polylines.specs.Rims.{rimC, rimAtC, allRefusal, allDue, pointsDue}
 
 -- ---- one more
 pub upTo-refusal : {A : Type 0} (f : ℕ → Checked A) (m : ℕ) → upTo f (m + 1) .refusal ≡ first (upTo f m .refusal) (f (m + 1) .refusal)

@@ -1,18 +1,14 @@
 -- Points of a circle at even angles. What crate arcs says of an arc's inner points is brought back to this.
 use Prim.Native.Nat.{ℕ, zero, suc}
 use mathlib.Core.List.{List}
-use lib.IntN.{pos}
-use lib.Ieee.{Float, binary64, ofInt}
+use lib.Ieee.{Float}
+use Rattle.checked.specs.Numbers.{float}
 use Rattle.checked.specs.Checked.{Checked, first, _>>=_, given, finite, num, _⊗_, _⊘_, Due, settled}
 use Rattle.vectors.specs.declared.Vec3.{Vec3}
 use Rattle.vectors.specs.Vectors.{vec, _⊞_, _⊠_}
 use Rattle.circle.specs.Circle.{sincosC}
 use Rattle.polylines.specs.declared.Rim.{Rim}
 use Rattle.polylines.specs.Rows.{upTo, fits}
-
--- `k as f64`
-abbrev pub float : ℕ → Float
-float k = ofInt binary64 (pos k)
 
 -- the point at the angle t from the start
 unfoldable pub rimC : Rim → Float → Checked Vec3

@@ -27,9 +27,9 @@ abbrev pub fits : ℕ → ℕ → Due (List Vec3) → Due (List Vec3)
 fits room m rest = unless ROW-TOO-SHORT (leb (3 * m) room) rest
 
 -- what is due once something else is
-abbrev pub after : {A B : Type 0} → Due A → (A → Due B) → Due B
-after (due a) rest = rest a
-after (refused n) rest = refused n
+abbrev pub andThen : {A B : Type 0} → Due A → (A → Due B) → Due B
+andThen (due a) rest = rest a
+andThen (refused n) rest = refused n
 
 -- ---- what a call on a lent row leaves
 -- the number of the refusal, 0 for none

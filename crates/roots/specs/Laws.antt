@@ -7,7 +7,8 @@ use lib.IntN.{ℤ}
 use lib.Dec.{T, ltb, eqb}
 use borrow.Author.Tests.{lt-ltb, le-ltb, ne-eqb}
 use lib.Ieee.{Float, nan, inf, fin, binary64, fits, toBits, ofBits}
-use Rattle.words.specs.Words.{float, size}
+use Rattle.checked.specs.Numbers.{literal}
+use Rattle.words.specs.Words.{size}
 use Rattle.words.specs.Signs.{finite-exponent}
 use Rattle.roots.specs.Roots.{acosFar, acos, greater, lesser, hypotOrdered, hypot}
 
@@ -58,6 +59,6 @@ infinite-second (fin t n d) false F = second (size (fin t n d)) (finite-exponent
 
 -- ---- 1 is the cosine of +0
 
-pub acos-one : acos (float 0x3ff00000_00000000) ≡ float 0
+pub acos-one : acos (literal 0x3ff00000_00000000) ≡ literal 0
 unfolding acos acosFar toBits ofBits
 acos-one = refl

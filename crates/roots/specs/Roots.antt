@@ -5,8 +5,9 @@ use mathlib.Core.Bool.{Bool, cond, _||_}
 use lib.Dec.{leb, ltb, eqb}
 use lib.Ieee.{Float, binary64}
 use Rattle.checked.specs.Patterns.{high-word, upper}
+use Rattle.checked.specs.Numbers.{zero, half, one, two, literal}
 use Rattle.rounding.specs.Root as Root
-use Rattle.words.specs.Words.{zero, half, one, two, _+ᶠ_, _-ᶠ_, _*ᶠ_, _/ᶠ_, if_then_else_, float, size, sign}
+use Rattle.words.specs.Words.{_+ᶠ_, _-ᶠ_, _*ᶠ_, _/ᶠ_, if_then_else_, size, sign}
 use Rattle.roots.specs.declared.Square.{Square}
 
 -- the square root
@@ -17,45 +18,45 @@ sqrt x = Root.sqrt binary64 x
 
 -- π/2 in two parts
 abbrev PIO2-HI : Float
-PIO2-HI = float 0x3FF921FB_54442D18  -- 1.57079632679489655800e+00
+PIO2-HI = literal 0x3FF921FB_54442D18  -- 1.57079632679489655800e+00
 
 abbrev PIO2-LO : Float
-PIO2-LO = float 0x3C91A626_33145C07  -- 6.12323399573676603587e-17
+PIO2-LO = literal 0x3C91A626_33145C07  -- 6.12323399573676603587e-17
 
 -- the coefficients of the ratio
 abbrev PS0 : Float
-PS0 = float 0x3FC55555_55555555  -- 1.66666666666666657415e-01
+PS0 = literal 0x3FC55555_55555555  -- 1.66666666666666657415e-01
 
 abbrev PS1 : Float
-PS1 = float 0xBFD4D612_03EB6F7D  -- -3.25565818622400915405e-01
+PS1 = literal 0xBFD4D612_03EB6F7D  -- -3.25565818622400915405e-01
 
 abbrev PS2 : Float
-PS2 = float 0x3FC9C155_0E884455  -- 2.01212532134862925881e-01
+PS2 = literal 0x3FC9C155_0E884455  -- 2.01212532134862925881e-01
 
 abbrev PS3 : Float
-PS3 = float 0xBFA48228_B5688F3B  -- -4.00555345006794114027e-02
+PS3 = literal 0xBFA48228_B5688F3B  -- -4.00555345006794114027e-02
 
 abbrev PS4 : Float
-PS4 = float 0x3F49EFE0_7501B288  -- 7.91534994289814532176e-04
+PS4 = literal 0x3F49EFE0_7501B288  -- 7.91534994289814532176e-04
 
 abbrev PS5 : Float
-PS5 = float 0x3F023DE1_0DFDF709  -- 3.47933107596021167570e-05
+PS5 = literal 0x3F023DE1_0DFDF709  -- 3.47933107596021167570e-05
 
 abbrev QS1 : Float
-QS1 = float 0xC0033A27_1C8A2D4B  -- -2.40339491173441421878e+00
+QS1 = literal 0xC0033A27_1C8A2D4B  -- -2.40339491173441421878e+00
 
 abbrev QS2 : Float
-QS2 = float 0x40002AE5_9C598AC8  -- 2.02094576023350569471e+00
+QS2 = literal 0x40002AE5_9C598AC8  -- 2.02094576023350569471e+00
 
 abbrev QS3 : Float
-QS3 = float 0xBFE6066C_1B8D0159  -- -6.88283971605453293030e-01
+QS3 = literal 0xBFE6066C_1B8D0159  -- -6.88283971605453293030e-01
 
 abbrev QS4 : Float
-QS4 = float 0x3FB3B8C5_B12E9282  -- 7.70381505559019352791e-02
+QS4 = literal 0x3FB3B8C5_B12E9282  -- 7.70381505559019352791e-02
 
 -- x1p_120f, which is 2^-120
 abbrev tiny : Float
-tiny = float 0x38700000_00000000
+tiny = literal 0x38700000_00000000
 
 -- the ratio r of two polynomials
 abbrev pub ratio : Float → Float
@@ -109,14 +110,14 @@ acos x =
 
 -- 2^27 + 1
 abbrev SPLIT : Float
-SPLIT = float 0x41A00000_02000000  -- 134217729.0
+SPLIT = literal 0x41A00000_02000000  -- 134217729.0
 
 -- 2^700, and 2^-700
 abbrev x1p700 : Float
-x1p700 = float 0x6bb00000_00000000
+x1p700 = literal 0x6bb00000_00000000
 
 abbrev x1p-700 : Float
-x1p-700 = float 0x14300000_00000000
+x1p-700 = literal 0x14300000_00000000
 
 -- the square of x in two parts
 abbrev pub sq : Float → Square
@@ -136,8 +137,8 @@ unfoldable pub hypotOrdered : ℕ → ℕ → Float
 hypotOrdered uxi uyi =
     let ex = uxi / 2 ^ 52 in
     let ey = uyi / 2 ^ 52 in
-    let x = float uxi in
-    let y = float uyi in
+    let x = literal uxi in
+    let y = literal uyi in
     if eqb ey 0x7ff then y
     else if eqb ex 0x7ff || eqb uyi 0 then x
     else if ltb 64 (ex - ey) then x +ᶠ y

@@ -3,8 +3,8 @@ use Prim.Native.Nat.{ℕ}
 use mathlib.Core.Path.{_≡_, refl}
 use mathlib.Core.List.{List, [], _∷_, map}
 use lib.Ieee.{Float, add, sub, mul, div, neg, toBits, ofBits}
+use Rattle.checked.specs.Numbers.{literal}
 use Rattle.rounding.specs.Root as Root
-use Rattle.words.specs.Words.{float}
 use Rattle.words.specs.Special.{minus, nought, least, one, greatest, infinity, not-a-number, π, π/2}
 use Rattle.roots.specs.Roots.{acosFar, acosNear, acos, greater, lesser, hypotOrdered, hypot}
 
@@ -39,7 +39,7 @@ angles =
     ∷ of-cosine 0x3bc79ca1_0c924223 0x3ff921fb_54442d18
     ∷ []
 
-acos-values : map (λ r. acos (float (r .cosine))) angles ≡ map (λ r. float (r .answer)) angles
+acos-values : map (λ r. acos (literal (r .cosine))) angles ≡ map (λ r. literal (r .answer)) angles
 unfolding angles acos acosFar acosNear Root.sqrt add sub mul div neg toBits ofBits
 acos-values = refl
 
@@ -82,6 +82,6 @@ sides =
     ∷ row 0x54b249ad_2594c37d 0x3ff00000_00000000 0x54b249ad_2594c37d
     ∷ []
 
-hypot-values : map (λ r. hypot (float (r .x)) (float (r .y))) sides ≡ map (λ r. float (r .answer)) sides
+hypot-values : map (λ r. hypot (literal (r .x)) (literal (r .y))) sides ≡ map (λ r. literal (r .answer)) sides
 unfolding sides hypot greater lesser hypotOrdered Root.sqrt add sub mul div neg toBits ofBits
 hypot-values = refl

@@ -1,10 +1,11 @@
 -- Vectors, their operations as the Rust writes them, and what is tried of them.
 use Prim.Native.Nat.{ℕ}
 use mathlib.Core.Bool.{Bool, _&&_, cond}
-use lib.Ieee.{Float, binary64, add, sub, mul, div, neg, ofBits}
+use lib.Ieee.{Float, binary64, add, sub, mul, div, neg}
 use Rattle.vectors.specs.declared.Vec2.{Vec2}
 use Rattle.vectors.specs.declared.Vec3.{Vec3}
 use Rattle.checked.specs.Refusals.{NOT-FINITE}
+use Rattle.checked.specs.Numbers.{zero}
 use Rattle.checked.specs.Checked.{Checked, first, _>>=_, given, nine, isFinite, within, finite, num, _⊕_, _⊖_, _⊗_, _⊘_}
 
 -- all three numbers are finite
@@ -28,13 +29,6 @@ plane x y = record { x = x; y = y }
 
 abbrev pub space : Float → Float → Float → Vec3
 space x y z = record { x = x; y = y; z = z }
-
--- 0 and 1
-abbrev pub zero : Float
-zero = ofBits binary64 0
-
-abbrev pub one : Float
-one = ofBits binary64 0x3ff0_0000_0000_0000
 
 -- the zero vector
 abbrev pub origin : Vec3

@@ -12,7 +12,8 @@ use lib.Ieee.Bits.{ofBits-toBits, toBits-ofBits, toBits-lt, nanBits-is}
 use lib.Ieee.Compare.{differs-from-itself}
 use Rattle.checked.specs.Patterns.{bits, high-word}
 use Rattle.checked.specs.PatternLaws.{yes, no, ne-self}
-use Rattle.words.specs.Words.{size, sign, signed, choose, fabs, float}
+use Rattle.checked.specs.Numbers.{literal}
+use Rattle.words.specs.Words.{size, sign, signed, choose, fabs}
 
 -- ---- |x| is the number of the pattern without its sign
 
@@ -47,7 +48,7 @@ cut-low b = omega arith
 same-fields : (s s' : Bool) (x x' t t' : ℕ) → s ≡ s' → x ≡ x' → t ≡ t' → ofFields binary64 s x t ≡ ofFields binary64 s' x' t'
 same-fields s s' x x' t t' p q r = λ i. ofFields binary64 (p i) (q i) (r i)
 
-pub fabs-bits : (x : Float) → T (fits binary64 x) → float (size x) ≡ fabs x
+pub fabs-bits : (x : Float) → T (fits binary64 x) → literal (size x) ≡ fabs x
 fabs-bits x F =
     let b = bits x in
     ofBits-is (b % 2 ^ 63)

@@ -8,7 +8,8 @@ use lib.Dec.{T, leb, ltb, eqb, ltb→lt}
 use borrow.Author.Tests.{ne-eqb, lt-leb}
 use lib.Ieee.{Float, nan, inf, fin, binary64, up, down, lt, isNan, toBits, ofBits, ofFields, fits}
 use Rattle.checked.specs.Patterns.{bits}
-use Rattle.words.specs.Words.{size, sign, fabs, float}
+use Rattle.checked.specs.Numbers.{literal}
+use Rattle.words.specs.Words.{size, sign, fabs}
 use Rattle.words.specs.Laws.{fabs-bits, bits-fabs}
 
 -- +0, and the zero of a sign
@@ -66,7 +67,7 @@ below-no-nan nan h = absurd h
 below-no-nan (inf s) h = refl
 below-no-nan (fin s m e) h = refl
 
-zero-number : float 0 ≡ nought
+zero-number : literal 0 ≡ nought
 unfolding ofBits
 zero-number = refl
 
@@ -96,10 +97,10 @@ zero-below (fin true m e) p h = none (up e) (down e) (subst (λ (k : ℕ). T (lt
 zero-below (fin false m e) p h = not-less (m * up e * 1) (down e) h
 
 pub above-size : (x : Float) → T (fits binary64 x) → T (lt nought x) → eqb (size x) 0 ≡ false
-above-size x F h = ne-eqb (size x) 0 (λ e. zero-above x (sym (fabs-bits x F) ∙ ap float e ∙ zero-number) h)
+above-size x F h = ne-eqb (size x) 0 (λ e. zero-above x (sym (fabs-bits x F) ∙ ap literal e ∙ zero-number) h)
 
 pub below-size : (x : Float) → T (fits binary64 x) → T (lt x nought) → eqb (size x) 0 ≡ false
-below-size x F h = ne-eqb (size x) 0 (λ e. zero-below x (sym (fabs-bits x F) ∙ ap float e ∙ zero-number) h)
+below-size x F h = ne-eqb (size x) 0 (λ e. zero-below x (sym (fabs-bits x F) ∙ ap literal e ∙ zero-number) h)
 
 -- ---- a finite number's exponent is below the infinity's
 

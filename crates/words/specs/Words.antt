@@ -2,7 +2,7 @@
 use Prim.Native.Nat.{ℕ, _/_, _%_, _^_}
 use mathlib.Core.Bool.{Bool, true, false, cond}
 use lib.Dec.{eqb}
-use lib.Ieee.{Float, nan, inf, fin, binary64, add, sub, mul, div, neg, ofBits}
+use lib.Ieee.{Float, nan, inf, fin, binary64, add, sub, mul, div, neg}
 use Rattle.checked.specs.Patterns.{bits}
 
 infixl 6 _+ᶠ_ _-ᶠ_
@@ -24,32 +24,6 @@ infixr 1 if_then_else_
 -- a choice by a test
 abbrev pub if_then_else_ : {A : Type 0} → Bool → A → A → A
 if_then_else_ b x y = cond b x y
-
--- the number of a bit pattern, which is what a literal of the code is
-abbrev pub float : ℕ → Float
-float b = ofBits binary64 b
-
--- 0, 0.5, 1, 1.5, 2, 3, 4
-abbrev pub zero : Float
-zero = float 0
-
-abbrev pub half : Float
-half = float 0x3fe00000_00000000
-
-abbrev pub one : Float
-one = float 0x3ff00000_00000000
-
-abbrev pub threeHalves : Float
-threeHalves = float 0x3ff80000_00000000
-
-abbrev pub two : Float
-two = float 0x40000000_00000000
-
-abbrev pub three : Float
-three = float 0x40080000_00000000
-
-abbrev pub four : Float
-four = float 0x40100000_00000000
 
 -- ---- parts of a pattern
 

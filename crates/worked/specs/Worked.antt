@@ -8,6 +8,7 @@ use lib.ListN.{length}
 use lib.Ieee.{Float, binary64, add, sub, mul, div, neg, lt, le, eq, isNan, ofBits, toBits, ofInt, toUnsigned, toSigned}
 use Rattle.checked.specs.Checked.{Due, due, refused, first, isFinite, nine, eight, within, settled}
 use Rattle.checked.specs.Patterns.{bits}
+use Rattle.checked.specs.Numbers.{zero, one}
 use Rattle.words.specs.Words.{fabs, signed, choose}
 use Rattle.rounding.specs.Root.{sqrt}
 use Rattle.rounding.specs.Whole.{ceil}
@@ -19,7 +20,7 @@ use Rattle.arctangent.specs.Arctangent.{reduced, atan, isOne, ratioAngle, angle
 use Rattle.order.specs.Least.{negative, least, greatest}
 use Rattle.vectors.specs.declared.Vec2.{Vec2}
 use Rattle.vectors.specs.declared.Vec3.{Vec3}
-use Rattle.vectors.specs.Vectors.{zero, one, space, plane, origin, within2, within3, plusC, minusC, timesC, negC, crossC, dotC}
+use Rattle.vectors.specs.Vectors.{space, plane, origin, within2, within3, plusC, minusC, timesC, negC, crossC, dotC}
 use Rattle.boxes.specs.Boxes.{empty, lesser, greater, widened, widenedBy, numbers, free, boxCall}
 use Rattle.boxes.specs.declared.Bounds.{Bounds}
 use Rattle.profiles.specs.declared.ProfileArc.{ProfileArc}
