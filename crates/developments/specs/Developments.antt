@@ -1,0 +1,69 @@
+-- The development of a cylinder, and what its entries are due to answer.
+use Prim.Native.Nat.{ℕ}
+use mathlib.Core.Bool.{Bool, _&&_, cond}
+use lib.Ieee.{Float, lt}
+use Rattle.checked.specs.Refusals.{OUT-OF-RANGE, NEUTRAL-NOT-POSITIVE}
+use Rattle.checked.specs.Checked.{Checked, first, _>>=_, given, within, Due, due, refused, answered, unless}
+use Rattle.checked.specs.Numbers.{zero}
+use Rattle.motions.specs.declared.Rigid.{Rigid}
+use Rattle.motions.specs.Motions.{withinRigid, applyC, applyVectorC}
+use Rattle.vectors.specs.declared.Vec2.{Vec2}
+use Rattle.vectors.specs.declared.Vec3.{Vec3}
+use Rattle.vectors.specs.Vectors.{within2, within3}
+use Rattle.rolls.specs.declared.Unrolled.{Unrolled}
+use Rattle.rolls.specs.Rolls.{radialC, pointC, alongC, unrollC}
+use Rattle.developments.specs.declared.Development.{Development}
+use Rattle.developments.specs.declared.UnrolledPoint.{UnrolledPoint}
+use Rattle.developments.specs.declared.UnrolledPoint.the-variants as unrolled-point
+use Rattle.developments.specs.declared.MovedDevelopment.{MovedDevelopment}
+use Rattle.developments.specs.declared.MovedDevelopment.the-variants as moved-development
+
+-- ---- what the code's answers say
+abbrev pub unrolledDue : UnrolledPoint → Due Unrolled
+unrolledDue (unrolled-point.Value v) = due v
+unrolledDue (unrolled-point.Refused n) = refused n
+
+abbrev pub developmentDue : MovedDevelopment → Due Development
+developmentDue (moved-development.Value v) = due v
+developmentDue (moved-development.Refused n) = refused n
+
+-- the development moved by m
+unfoldable pub movedC : Development → Rigid → Checked Development
+movedC d m = do
+  o ← applyC m (d .origin)
+  a ← applyVectorC m (d .axis)
+  s ← applyVectorC m (d .start)
+  given (record { origin = o; axis = a; start = s; neutral = d .neutral })
+
+-- ---- what is tried of a development
+unfoldable pub developmentWithin : Development → Bool
+developmentWithin d = within3 (d .origin) && (within3 (d .axis) && (within3 (d .start) && within (d .neutral)))
+
+-- all numbers handed in, then the neutral radius
+abbrev pub handed : {A : Type 0} → Bool → Float → Due A → Due A
+handed all neutral rest = unless OUT-OF-RANGE all (unless NEUTRAL-NOT-POSITIVE (lt zero neutral) rest)
+
+-- the number of the test that fails first
+unfoldable pub tests : Bool → Float → ℕ
+tests all neutral = cond all (cond (lt zero neutral) 0 NEUTRAL-NOT-POSITIVE) OUT-OF-RANGE
+
+-- ---- what is due
+-- `Development::radial`
+unfoldable pub radialDue : Development → Float → Due Vec3
+radialDue d u = handed (developmentWithin d && within u) (d .neutral) (answered (radialC (d .axis) (d .start) (d .neutral) u))
+
+-- `Development::point`
+unfoldable pub pointDue : Development → Vec2 → Float → Due Vec3
+pointDue d p r = handed (developmentWithin d && (within2 p && within r)) (d .neutral) (answered (pointC (d .origin) (d .axis) (d .start) (d .neutral) p r))
+
+-- `Development::along`
+unfoldable pub alongDue : Development → Vec2 → Vec2 → Float → Due Vec3
+alongDue d p v r = handed (developmentWithin d && (within2 p && (within2 v && within r))) (d .neutral) (answered (alongC (d .axis) (d .start) (d .neutral) p v r))
+
+-- `Development::unroll`
+unfoldable pub unrollDue : Development → Vec3 → Float → Due Unrolled
+unrollDue d q near = handed (developmentWithin d && (within3 q && within near)) (d .neutral) (answered (unrollC (d .origin) (d .axis) (d .start) (d .neutral) q near))
+
+-- `Development::moved`
+unfoldable pub movedDue : Development → Rigid → Due Development
+movedDue d m = handed (developmentWithin d && withinRigid m) (d .neutral) (answered (movedC d m))

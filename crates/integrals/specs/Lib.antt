@@ -1,0 +1,3 @@
+pub mod Sums
+pub mod Gauss
+pub mod Laws

@@ -1,0 +1,31 @@
+-- What the entry on meets is due to answer.
+use mathlib.Core.Bool.{Bool, true, _&&_}
+use lib.Ieee.{Float, lt}
+use Rattle.checked.specs.Refusals.{OUT-OF-RANGE, NEUTRAL-NOT-POSITIVE}
+use Rattle.checked.specs.Checked.{within, Due, due, refused, answered, unless}
+use Rattle.checked.specs.Numbers.{zero}
+use Rattle.vectors.specs.Vectors.{within3}
+use Rattle.reaches.specs.declared.Jet.{Jet}
+use Rattle.meets.specs.declared.Turn.{Turn}
+use Rattle.meets.specs.declared.Turn.the-variants as turn
+use Rattle.meets.specs.declared.Meet.{Meet}
+use Rattle.meets.specs.declared.MeetPoint.{MeetPoint}
+use Rattle.meets.specs.declared.MeetPoint.the-variants as meet-point
+use Rattle.meets.specs.Meets.{jetC}
+
+-- what the code's answer says
+abbrev pub pointsDue : MeetPoint → Due Jet
+pointsDue (meet-point.Value v) = due v
+pointsDue (meet-point.Refused n) = refused n
+
+-- all numbers of a meet pass the test of what is handed in
+unfoldable pub turnWithin : Turn → Bool
+turnWithin turn.Without = true
+turnWithin (turn.Angles f g) = within f && within g
+
+unfoldable pub meetWithin : Meet → Bool
+meetWithin m = within3 (m .origin) && (within3 (m .axis) && (within (m .radius) && (within (m .own) && turnWithin (m .turn))))
+
+-- `Meet::point`
+unfoldable pub pointDue : Meet → Float → Float → Due Jet
+pointDue m phi n = unless OUT-OF-RANGE (meetWithin m && (within phi && within n)) (unless NEUTRAL-NOT-POSITIVE (lt zero n) (answered (jetC m phi n)))

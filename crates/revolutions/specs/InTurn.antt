@@ -1,0 +1,154 @@
+-- Opening a face's sums, adding each of its paths in turn and closing them gives what `revolution` gives over the list of the paths. Where all
+-- that is handed in passes its tests the answers are the same, refusals too; and one is accepted only where the other is.
+-- (A call can't know what later ones are handed: where a path fails a test, an earlier one may have been refused by a higher number.)
+use Prim.Native.Nat.{ℕ, zero, suc}
+use mathlib.Core.Path.{_≡_, refl, sym, _∙_, ap}
+use mathlib.Core.Bool.{Bool, true, false, _&&_}
+use mathlib.Core.List.{List, [], _∷_}
+use native.Mathlib.Omega.{arith}
+use lib.Ieee.{ofBits}
+use lib.Ieee.Bits.{is-true}
+use Rattle.checked.specs.PatternLaws.{yes}
+use Rattle.checked.specs.Checked.{Checked, first, isFinite, Due, due, refused, settled, answered, unless}
+use Rattle.checked.specs.Laws.{first-none}
+use Rattle.vectors.specs.declared.Vec3.{Vec3}
+use Rattle.vectors.specs.Vectors.{isFinite3, within3}
+use Rattle.frames.specs.declared.Cone.{Cone}
+use Rattle.frames.specs.Entries.{coneWithin}
+use Rattle.integrals.specs.declared.Integrals.{Integrals}
+use Rattle.integrals.specs.Sums.{finiteSums, nothing}
+use Rattle.loops.specs.Lists.{foldListC, list-sound, list-once}
+use Rattle.integrands.specs.declared.Revolved.{Revolved}
+use Rattle.integrands.specs.Integrands.{revolvedC}
+use Rattle.integrands.specs.Sound.{Finite, along-sound}
+use Rattle.arc_paths.specs.ArcPaths.{courseAt, arcPathC}
+use Rattle.revolutions.specs.Revolutions.{Path, arc, pathWithin, liesOn, pathC, sumsC, closeC, revolutionC, every, faceWithin, revolutionDue, openDue, addC, addDue, closeDue, andThen, addedInTurn, inTurn}
+
+-- ---- sums stay finite
+path-sound : (w : Revolved) (p : Path) (s : Integrals) → pathC w p s .refusal ≡ 0 → Finite s → Finite (pathC w p s .value)
+unfolding pathC arcPathC
+path-sound w (arc a u v) s e g = along-sound w (courseAt _) _ s (first-none _ _ e .1) g
+
+add-sound : (cone : Cone) (o : Vec3) (p : Path) (s : Integrals) → addC cone o p s .refusal ≡ 0 → Finite s → Finite (addC cone o p s .value)
+unfolding addC
+add-sound cone o p s e g = path-sound (revolvedC cone o .value) p s (first-none _ _ e .1) g
+
+nothing-finite : Finite nothing
+unfolding finiteSums isFinite3 isFinite ofBits
+nothing-finite = tt
+
+-- ---- tests
+both : (a b : Bool) → (a && b) ≡ true → (a ≡ true) × (b ≡ true)
+both true b h = (refl, h)
+both false b h = absurd (yes h)
+
+passes : {A : Type 0} (n : ℕ) (b : Bool) (rest : Due A) → b ≡ true → unless n b rest ≡ rest
+passes n true rest h = refl
+passes n false rest h = absurd (yes h)
+
+never : {A : Type 0} (n : ℕ) (t : A) → refused n ≡ due t → ⊥
+never n t h = let z : _≡_ {A = ℕ} 0 1 = cc in omega arith
+
+passed : {A : Type 0} (n : ℕ) (b : Bool) (rest : Due A) (t : A) → unless n b rest ≡ due t → (b ≡ true) × (rest ≡ due t)
+passed n true rest t h = (refl, h)
+passed n false rest t h = absurd (never n t h)
+
+-- ---- one call after the other
+then-settled : {A B : Type 0} (r : ℕ) (a : A) (rest : A → Due B) (m : Checked B) → (r ≡ 0 → rest a ≡ answered m) → andThen (settled r a) rest ≡ settled (first r (m .refusal)) (m .value)
+unfolding settled first
+then-settled zero a rest m h = h refl
+then-settled (suc r) a rest m h = refl
+
+then-due : {A B : Type 0} (d : Due A) (rest : A → Due B) (t : B) (C : Type 0) → andThen d rest ≡ due t → ((a : A) → d ≡ due a → rest a ≡ due t → C) → C
+then-due (due a) rest t C h k = k a refl h
+then-due (refused n) rest t C h k = absurd (never n t h)
+
+module _ (cone : Cone) (o : Vec3) where
+  -- each path works out the surface for itself, which is as good as once
+  each-is : (ps : List Path) → foldListC (addC cone o) ps nothing ≡ sumsC cone o ps
+  unfolding sumsC addC
+  each-is [] = unfold foldListC in refl
+  each-is (p ∷ ps) = list-once (pathC (revolvedC cone o .value)) (revolvedC cone o .refusal) p ps nothing
+
+  module _ (face : faceWithin cone o ≡ true) where
+    add-is : (p : Path) (s : Integrals) → pathWithin p ≡ true → liesOn cone p ≡ true → Finite s → addDue cone o p s ≡ answered (addC cone o p s)
+    unfolding addDue
+    add-is p s w l f = simp (face, w, l, is-true (finiteSums s) f)
+
+    added-are : (ps : List Path) (s : Integrals) → every pathWithin ps ≡ true → every (liesOn cone) ps ≡ true → Finite s → addedInTurn cone o ps s ≡ answered (foldListC (addC cone o) ps s)
+    unfolding addedInTurn every foldListC
+    added-are [] s w l f = unfold settled in refl
+    added-are (p ∷ ps) s w l f =
+        let ws = both (pathWithin p) (every pathWithin ps) w in
+        let ls = both (liesOn cone p) (every (liesOn cone) ps) l in
+        let m = addC cone o p s in
+        ap (λ (d : Due Integrals). andThen d (addedInTurn cone o ps)) (add-is p s (ws .0) (ls .0) f)
+        ∙ then-settled (m .refusal) (m .value) (addedInTurn cone o ps) (foldListC (addC cone o) ps (m .value))
+        (λ z. added-are ps (m .value) (ws .1) (ls .1) (add-sound cone o p s z f))
+
+    close-is : (s acc : Integrals) → Finite s → finiteSums acc ≡ true → closeDue cone s acc ≡ answered (closeC acc (cone .convex) s)
+    unfolding closeDue
+    close-is s acc f a = simp (cone-within, a, is-true (finiteSums s) f)
+      where
+        cone-within : coneWithin cone ≡ true
+        cone-within = unfold faceWithin in both (coneWithin cone) (within3 o) face .0
+
+    module _ (ps : List Path) (acc : Integrals) (w : every pathWithin ps ≡ true) (a : finiteSums acc ≡ true) (l : every (liesOn cone) ps ≡ true) where
+      abbrev sums : Checked Integrals
+      sums = foldListC (addC cone o) ps nothing
+
+      opened : andThen (openDue cone o) (addedInTurn cone o ps) ≡ answered sums
+      unfolding openDue
+      opened = simp face (added-are ps nothing w l nothing-finite)
+
+      closed : andThen (answered sums) (λ s. closeDue cone s acc) ≡ settled (first (sums .refusal) (closeC acc (cone .convex) (sums .value) .refusal)) (closeC acc (cone .convex) (sums .value) .value)
+      closed = then-settled (sums .refusal) (sums .value) (λ s. closeDue cone s acc) (closeC acc (cone .convex) (sums .value))
+          (λ z. close-is (sums .value) acc (list-sound Finite (addC cone o) (add-sound cone o) ps nothing z nothing-finite) a)
+
+      turned : inTurn cone o ps acc ≡ answered (revolutionC cone o ps acc)
+      unfolding inTurn revolutionC
+      turned =
+          ap (λ (d : Due Integrals). andThen d (λ s. closeDue cone s acc)) opened
+          ∙ (closed
+          ∙ ap (λ (m : Checked Integrals). settled (first (m .refusal) (closeC acc (cone .convex) (m .value) .refusal)) (closeC acc (cone .convex) (m .value) .value)) (each-is ps))
+
+      -- the same answer
+      pub same : inTurn cone o ps acc ≡ revolutionDue cone o ps acc
+      unfolding revolutionDue
+      same = turned ∙ sym (simp (face, w, a, l))
+
+  -- ---- what is accepted passes its tests
+  added-due : (ps : List Path) (s t : Integrals) → addedInTurn cone o ps s ≡ due t → (every pathWithin ps ≡ true) × (every (liesOn cone) ps ≡ true)
+  unfolding addedInTurn every addDue
+  added-due [] s t h = (refl, refl)
+  added-due (p ∷ ps) s t h =
+      then-due (addDue cone o p s) (addedInTurn cone o ps) t ((every pathWithin (p ∷ ps) ≡ true) × (every (liesOn cone) (p ∷ ps) ≡ true)) h
+      (λ m e r.
+      let one = passed _ (faceWithin cone o && pathWithin p) _ m e in
+      let four = passed _ (finiteSums s) _ m (one .1) in
+      let seven = passed _ (liesOn cone p) _ m (four .1) in
+      let rest = added-due ps m t r in
+      (simp (both (faceWithin cone o) (pathWithin p) (one .0) .1, rest .0), simp (seven .0, rest .1)))
+
+  -- the calls are accepted only where `revolution` is, with the same sums
+  pub accepted : (ps : List Path) (acc t : Integrals) → inTurn cone o ps acc ≡ due t → revolutionDue cone o ps acc ≡ due t
+  unfolding inTurn openDue closeDue
+  accepted ps acc t h =
+      then-due (andThen (openDue cone o) (addedInTurn cone o ps)) (λ s. closeDue cone s acc) t (revolutionDue cone o ps acc ≡ due t) h
+      (λ s e c.
+      then-due (openDue cone o) (addedInTurn cone o ps) s (revolutionDue cone o ps acc ≡ due t) e
+      (λ n f g.
+      let face = passed _ (faceWithin cone o) _ n f .0 in
+      let tests = added-due ps n s g in
+      let four = passed _ (finiteSums acc && finiteSums s) _ t (passed _ (coneWithin cone) _ t c .1) .0 in
+      sym (same face ps acc (tests .0) (both (finiteSums acc) (finiteSums s) four .0) (tests .1)) ∙ h))
+
+  -- and `revolution` only where they are
+  pub accepts : (ps : List Path) (acc t : Integrals) → revolutionDue cone o ps acc ≡ due t → inTurn cone o ps acc ≡ due t
+  unfolding revolutionDue
+  accepts ps acc t h =
+      let one = passed _ (faceWithin cone o && every pathWithin ps) _ t h in
+      let four = passed _ (finiteSums acc) _ t (one .1) in
+      let seven = passed _ (every (liesOn cone) ps) _ t (four .1) in
+      let ones = both (faceWithin cone o) (every pathWithin ps) (one .0) in
+      same (ones .0) ps acc (ones .1) (four .0) (seven .0) ∙ h
