@@ -12,6 +12,10 @@ atan2C m n = do
   x ← n
   finite (atan2 y x)
 
+-- the same of two numbers that are tried first
+abbrev pub angleC : Float → Float → Checked Float
+angleC y x = atan2C (finite y) (finite x)
+
 -- a turn counterclockwise, in (0, 2π]: at or below 0 it gains 2π
 unfoldable pub aheadC : Float → Checked Float
 aheadC t = cond (le t zero) (num t ⊕ num tau) (num t)

@@ -5,8 +5,8 @@ ghost use Rattle.angles.specs.Angles.{aheadC, backC};
 ghost use Rattle.profiles.specs.Profiles.{apartC, turnC};
 use crate::ProfileArc;
 use angles::ahead;
+use angles::angle;
 use angles::back;
-use arctangent::atan2;
 use checked::CheckedNumber;
 use checked::note;
 use vectors::Vec2;
@@ -37,9 +37,10 @@ pub fn turn(arc: ProfileArc, a: Vec2, b: Vec2) -> CheckedNumber
     let v = apart(c, b);
     let y = u.x * v.y - u.y * v.x;
     let x = u.x * v.x + u.y * v.y;
-    let t = turned(arc.ccw, atan2(y, x));
+    let t = angle(y, x);
+    let turn = turned(arc.ccw, t.value);
     CheckedNumber {
-        refusal: note(note(note(0, y), x), t),
-        value: t,
+        refusal: note(t.refusal, turn),
+        value: turn,
     }
 }

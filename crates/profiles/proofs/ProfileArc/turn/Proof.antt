@@ -1,8 +1,5 @@
 use borrow.Author.Needs.{needs}
 use Rattle.profiles.specs.Profiles.{turnDue}
-use Rattle.checked.specs.Laws.{rules as checked-rules}
-use Rattle.vectors.specs.Laws.{rules as vectors-rules}
-use Rattle.angles.specs.Laws.{rules as angles-rules}
 use mathlib.Core.Path.{sym, _∙_}
 use Rattle.profiles.proofs.ProfileArc.turn.Statement.{statement}
 use Rattle.profiles.proofs.ProfileArc.turn.Tie as tie
@@ -18,11 +15,11 @@ settle-requires c κs = search needs
 
 returns : tie.Need-returns
 unfolding turnDue
-returns c = simp (c .settle .ensures, c .before .turn .ensures .0, c .before .turn .ensures .1, sym (c .before .before .before .is-handed .ensures) ∙ c .before .before .if1 .taken, checked-rules, vectors-rules, angles-rules)
+returns c = simp (c .settle .ensures, c .before .turn .ensures .0, c .before .turn .ensures .1, sym (c .before .before .before .is-handed .ensures) ∙ c .before .before .if1 .taken)
 
 returns-2 : tie.Need-returns-2
 unfolding turnDue
-returns-2 c = simp (sym (c .before .is-handed .ensures) ∙ c .if1 .left, checked-rules, vectors-rules, angles-rules)
+returns-2 c = simp (sym (c .before .is-handed .ensures) ∙ c .if1 .left)
 
 pub turn-spec : {M : Type 1} → statement M
 turn-spec = tie.close (tie.spec is-handed-requires turn-requires settle-requires returns returns-2)
