@@ -5,10 +5,11 @@ use mathlib.Core.List.{List}
 use lib.Ieee.{Float, lt}
 use Rattle.checked.specs.Refusals.{OUT-OF-RANGE, BAD-TOLERANCE}
 use Rattle.checked.specs.Checked.{Checked, first, _>>=_, given, finite, num, within, _⊗_, _⊘_, Due, answered, unless}
-use Rattle.checked.specs.Numbers.{zero, tau, float}
+use Rattle.checked.specs.Numbers.{zero, one, tau, float}
 use Rattle.vectors.specs.declared.Vec3.{Vec3}
-use Rattle.chords.specs.Chords.{perTurnC, countC}
-use Rattle.polylines.specs.Rows.{upTo, fits, andThen}
+use Rattle.chords.specs.Chords.{perTurnC}
+use Rattle.counts.specs.Counts.{MOST, countC}
+use Rattle.rows.specs.Rows.{upTo, fits, andThen}
 use Rattle.arcs.specs.declared.Arc.{Arc}
 use Rattle.arcs.specs.declared.Cut.{Cut}
 use Rattle.arcs.specs.Arcs.{sweepC, atC}
@@ -19,7 +20,7 @@ unfoldable pub cutC : Arc → Vec3 → Vec3 → Float → Checked Cut
 cutC arc from to chord = do
   turn ← sweepC arc from to
   q ← num turn ⊘ num tau ⊗ perTurnC (arc .radius) chord
-  n ← countC q
+  n ← countC q one MOST
   given (record { turn = turn; chords = n })
 
 -- the point k of an arc that is cut

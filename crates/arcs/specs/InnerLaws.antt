@@ -6,17 +6,19 @@ use mathlib.Core.List.{List}
 use lib.Ieee.{Float, binary64, mul, div}
 use Rattle.checked.specs.Checked.{Checked, first, nine, isFinite, settled}
 use Rattle.checked.specs.Laws.{ok, nine-ok, ok-and, opened as checked-opened, rules as checked-rules}
-use Rattle.checked.specs.Numbers.{tau, float}
+use Rattle.checked.specs.Numbers.{one, tau, float}
 use Rattle.rounding.specs.Laws.{rounded}
 use Rattle.vectors.specs.declared.Vec3.{Vec3}
 use Rattle.vectors.specs.Vectors.{isFinite3, nines, minusC, crossC}
 use Rattle.vectors.specs.Laws.{nines-ok}
 use Rattle.directions.specs.Directions.{lengthC, acrossC}
-use Rattle.chords.specs.Chords.{perTurnC, countC}
-use Rattle.polylines.specs.declared.Rim.{Rim}
-use Rattle.polylines.specs.Rows.{upTo, fits}
-use Rattle.polylines.specs.Rims.{rimC, rimAtC, allRefusal, allDue}
-use Rattle.polylines.specs.Laws.{upTo-same, upTo-before, rim-refusal}
+use Rattle.chords.specs.Chords.{perTurnC}
+use Rattle.counts.specs.Counts.{MOST, countC}
+use Rattle.rims.specs.declared.Rim.{Rim}
+use Rattle.rows.specs.Rows.{upTo, fits, allRefusal, allDue}
+use Rattle.rows.specs.Laws.{upTo-same, upTo-before}
+use Rattle.rims.specs.Rims.{rimC, rimAtC}
+use Rattle.rims.specs.Laws.{rim-refusal}
 use Rattle.arcs.specs.declared.Arc.{Arc}
 use Rattle.arcs.specs.declared.Cut.{Cut}
 use Rattle.arcs.specs.Arcs.{sweepC, spokeC, turnedC, atC}
@@ -24,7 +26,7 @@ use Rattle.arcs.specs.Inner.{cutC, innerC, innersDue}
 use Rattle.arcs.specs.Laws.{spoke-refusal, turned-refusal}
 
 -- the sweep's refusal, that of the quotient, the chords', the count's
-pub cut-refusal : (arc : Arc) (from to : Vec3) (chord : Float) → cutC arc from to chord .refusal ≡ first (sweepC arc from to .refusal) (first (nine (div binary64 (sweepC arc from to .value) tau)) (first (perTurnC (arc .radius) chord .refusal) (countC (mul binary64 (div binary64 (sweepC arc from to .value) tau) (perTurnC (arc .radius) chord .value)) .refusal)))
+pub cut-refusal : (arc : Arc) (from to : Vec3) (chord : Float) → cutC arc from to chord .refusal ≡ first (sweepC arc from to .refusal) (first (nine (div binary64 (sweepC arc from to .value) tau)) (first (perTurnC (arc .radius) chord .refusal) (countC (mul binary64 (div binary64 (sweepC arc from to .value) tau) (perTurnC (arc .radius) chord .value)) one MOST .refusal)))
 unfolding cutC countC
 cut-refusal arc from to chord = simp (rounded, checked-rules)
 

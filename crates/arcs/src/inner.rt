@@ -2,7 +2,7 @@
 ghost use mathlib.Core.Path.{_≡_};
 ghost use Prim.Native.Nat.{_-_};
 ghost use lib.ListN.{length};
-ghost use Rattle.polylines.specs.Rows.{Drawn};
+ghost use Rattle.rows.specs.Rows.{Drawn};
 ghost use Rattle.arcs.specs.Inner.{cutC, innersDue};
 use crate::Arc;
 use crate::CheckedCut;
@@ -13,10 +13,11 @@ use crate::formula::sweep;
 use checked::TAU;
 use checked::earlier;
 use checked::note;
-use chords::formula::count;
 use chords::formula::per_turn;
-use polylines::Rim;
-use polylines::write;
+use counts::MOST;
+use counts::count;
+use rims::Rim;
+use rims::write;
 use vectors::Vec3;
 use vectors::formula::cross;
 
@@ -27,7 +28,7 @@ pub fn cut_up(arc: Arc, from: Vec3, to: Vec3, chord: f64) -> CheckedCut
     let s = sweep(arc, from, to);
     let h = s.value / TAU;
     let p = per_turn(arc.radius, chord);
-    let n = count(h * p.value);
+    let n = count(h * p.value, 1.0, MOST);
     CheckedCut {
         refusal: earlier(note(s.refusal, h), earlier(p.refusal, n.refusal)),
         value: Cut {

@@ -6,7 +6,7 @@ ghost use Rattle.vectors.specs.Vectors.{within3};
 ghost use Rattle.vectors.specs.Entries.{vectorDue};
 ghost use lib.ListN.{length};
 ghost use Rattle.boxes.specs.Boxes.{widenedDue, outcome, Lent};
-ghost use Rattle.polylines.specs.Rows.{numberOf, partOf, Drawn};
+ghost use Rattle.rows.specs.Rows.{numberOf, partOf, Drawn};
 ghost use Rattle.arcs.specs.Inner.{innerPointsDue};
 ghost use Rattle.arcs.specs.Entries.{arcDue, arcWithin, endsWithin, reversedDue, sweepDue, atDue, extendDue};
 use boxes::Bounds;

@@ -1,13 +1,11 @@
--- How many chords a circle is drawn with, and counts as whole numbers.
-use Prim.Native.Nat.{ℕ}
+-- How many chords a circle is drawn with.
 use mathlib.Core.Bool.{Bool, not, cond, _&&_}
-use lib.Ieee.{Float, binary64, div, lt, le, ofBits, toUnsigned}
-use Rattle.checked.specs.Refusals.{OUT-OF-RANGE, BAD-TOLERANCE, COUNT-TOO-LARGE}
+use lib.Ieee.{Float, binary64, div, lt, ofBits}
+use Rattle.checked.specs.Refusals.{OUT-OF-RANGE, BAD-TOLERANCE}
 use Rattle.checked.specs.Checked.{Checked, first, _>>=_, given, finite, num, within, _⊖_, _⊘_, Due, answered, unless}
 use Rattle.checked.specs.Numbers.{zero, one, pi}
 use Rattle.rounding.specs.Whole.{ceil}
 use Rattle.roots.specs.Roots.{acos}
-use Rattle.order.specs.Least.{greatest}
 
 -- SEGMENTS: a full turn has at least 12 chords and at most 64
 abbrev pub fewest : Float
@@ -47,18 +45,3 @@ unfoldable pub perTurnDue : Float → Float → Due Float
 perTurnDue radius chord =
     unless OUT-OF-RANGE (within radius && within chord)
     (unless BAD-TOLERANCE (not (lt chord zero)) (answered (perTurnC radius chord)))
-
--- ---- counts
--- 65535
-abbrev pub mostCounted : Float
-mostCounted = ofBits binary64 0x40ef_ffe0_0000_0000
-
--- `x as usize`, or a refusal above 65,535
-unfoldable pub limitedC : Float → Checked ℕ
-limitedC x = cond (le x mostCounted) (given (toUnsigned 64 x)) (record { refusal = COUNT-TOO-LARGE; value = 0 })
-
--- `x.ceil().max(1.0) as usize`
-unfoldable pub countC : Float → Checked ℕ
-countC x = do
-  c ← finite (ceil binary64 x)
-  limitedC (greatest c one)

@@ -11,12 +11,6 @@ use checked::settle;
 
 pub mod formula;
 
-// A count, with the refusal that its computation met first; 0 is none.
-pub struct CheckedCount {
-    pub value: u16,
-    pub refusal: u8,
-}
-
 fn are_within(radius: f64, chord: f64) -> bool
     ensures { λ r. ⌜ r ≡ (within radius && within chord) ⌝ }
 {

@@ -14,8 +14,9 @@ use Rattle.rounding.specs.Root.{sqrt}
 use Rattle.rounding.specs.Whole.{ceil}
 use Rattle.circle.specs.Circle.{secondRound, medium, toFive, toNine, remPio2, turnedSines, sines, sinesOrZeros}
 use Rattle.roots.specs.Roots.{acosFar, acosNear, acos}
-use Rattle.chords.specs.Chords.{quotientC, chordsC, clamped, perTurnC, limitedC, countC}
-use Rattle.polylines.specs.Rows.{upTo}
+use Rattle.chords.specs.Chords.{quotientC, chordsC, clamped, perTurnC}
+use Rattle.counts.specs.Counts.{limitedC, countC}
+use Rattle.rows.specs.Rows.{upTo}
 use Rattle.arctangent.specs.Arctangent.{reduced, atan, isOne, ratioAngle, angle, atan2}
 use Rattle.order.specs.Least.{negative, least, greatest}
 use Rattle.vectors.specs.declared.Vec2.{Vec2}

@@ -3,7 +3,7 @@ use lib.ListN.{length}
 use Rattle.arcs.specs.Inner.{innerPointsDue}
 use mathlib.Core.Path.{sym}
 use lib.Seq.{length-take-le}
-use Rattle.polylines.specs.Laws.{part-taken, part-fits}
+use Rattle.rows.specs.Laws.{part-taken, part-fits}
 use borrow.Author.Needs.{needs}
 use Rattle.arcs.proofs.Arc.inner_points.Statement.{statement}
 use Rattle.arcs.proofs.Arc.inner_points.Tie as tie

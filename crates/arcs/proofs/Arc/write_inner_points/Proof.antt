@@ -2,7 +2,7 @@ use mathlib.Core.Path.{_≡_, sym, _∙_}
 use borrow.Author.Needs.{needs}
 use Rattle.checked.specs.Checked.{Checked}
 use Rattle.checked.specs.Laws.{settled-none, settled-some}
-use Rattle.polylines.specs.Laws.{drawn-refused}
+use Rattle.rows.specs.Laws.{drawn-refused}
 use Rattle.arcs.specs.Inner.{cutC, innerPointsDue}
 use Rattle.arcs.proofs.Arc.write_inner_points.Statement.{statement}
 use Rattle.arcs.proofs.Arc.write_inner_points.Tie as tie

@@ -1,9 +1,8 @@
 use mathlib.Core.Path.{_≡_, refl, sym, _∙_, ap}
 use borrow.Author.Needs.{needs}
 use lib.ListN.{length}
-use Rattle.polylines.specs.Rows.{numberOf}
-use Rattle.polylines.specs.Rims.{allDue}
-use Rattle.polylines.specs.Laws.{part-length, part-refused}
+use Rattle.rows.specs.Rows.{numberOf, allDue}
+use Rattle.rows.specs.Laws.{part-length, part-refused}
 use Rattle.arcs.specs.Inner.{innersDue}
 use Rattle.arcs.specs.InnerLaws.{inners-are}
 use Rattle.arcs.proofs.inner.write_points.Statement.{statement}

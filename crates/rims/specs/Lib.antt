@@ -1,0 +1,2 @@
+pub mod Rims
+pub mod Laws
