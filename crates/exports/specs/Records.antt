@@ -14,7 +14,7 @@ use Rattle.motions.specs.declared.Rigid.{Rigid}
 use Rattle.profiles.specs.declared.ProfileArc.{ProfileArc}
 use Rattle.arcs.specs.declared.Arc.{Arc}
 use Rattle.boxes.specs.declared.Bounds.{Bounds}
-use Rattle.polylines.specs.Rows as Rows
+use Rattle.rows.specs.Rows as Rows
 
 -- ---- records as arrays
 abbrev pub vec2 : List Float → Vec2

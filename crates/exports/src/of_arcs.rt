@@ -6,7 +6,7 @@ ghost use Rattle.chords.specs.Chords as Chords;
 ghost use Rattle.arcs.specs.Entries as Arcs;
 ghost use lib.ListN.{length};
 ghost use Rattle.arcs.specs.Inner.{innerPointsDue};
-ghost use Rattle.polylines.specs.Rows as Rows;
+ghost use Rattle.rows.specs.Rows as Rows;
 ghost use Rattle.exports.specs.Records.{vec2, vec3, arc, bounds, profileArc, numberOf, after1, after3, after6, after7, afterCount};
 use crate::records::arc_of;
 use crate::records::store_arc;

@@ -5,7 +5,7 @@ use lib.ListN.{length, set}
 use borrow.Author.Tests.{eq-eqb, ne-eqb}
 use Rattle.checked.specs.Checked.{Due}
 use Rattle.vectors.specs.declared.Vec3.{Vec3}
-use Rattle.polylines.specs.Rows.{numberOf, partOf}
+use Rattle.rows.specs.Rows.{numberOf, partOf}
 use Rattle.exports.specs.Records.{afterCount}
 use borrow.Author.Needs.{needs}
 use Rattle.exports.proofs.of_arcs.jr_inner_points.Statement.{statement}
