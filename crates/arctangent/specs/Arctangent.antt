@@ -12,62 +12,62 @@ use Rattle.arctangent.specs.declared.Reduced.{Reduced}
 -- ---- atan.rs
 
 -- ATANHI and ATANLO: the arctangents of 1/2, 1, 3/2 and infinity, in two parts each
-abbrev ATANHI0 : Float
+abbrev pub ATANHI0 : Float
 ATANHI0 = literal 0x3FDDAC67_0561BB4F  -- 4.63647609000806093515e-01
 
-abbrev ATANHI1 : Float
+abbrev pub ATANHI1 : Float
 ATANHI1 = literal 0x3FE921FB_54442D18  -- 7.85398163397448278999e-01
 
-abbrev ATANHI2 : Float
+abbrev pub ATANHI2 : Float
 ATANHI2 = literal 0x3FEF730B_D281F69B  -- 9.82793723247329054082e-01
 
-abbrev ATANHI3 : Float
+abbrev pub ATANHI3 : Float
 ATANHI3 = literal 0x3FF921FB_54442D18  -- 1.57079632679489655800e+00
 
-abbrev ATANLO0 : Float
+abbrev pub ATANLO0 : Float
 ATANLO0 = literal 0x3C7A2B7F_222F65E2  -- 2.26987774529616870924e-17
 
-abbrev ATANLO1 : Float
+abbrev pub ATANLO1 : Float
 ATANLO1 = literal 0x3C81A626_33145C07  -- 3.06161699786838301793e-17
 
-abbrev ATANLO2 : Float
+abbrev pub ATANLO2 : Float
 ATANLO2 = literal 0x3C700788_7AF0CBBD  -- 1.39033110312309984516e-17
 
-abbrev ATANLO3 : Float
+abbrev pub ATANLO3 : Float
 ATANLO3 = literal 0x3C91A626_33145C07  -- 6.12323399573676603587e-17
 
 -- AT: the coefficients of the series
-abbrev AT0 : Float
+abbrev pub AT0 : Float
 AT0 = literal 0x3FD55555_5555550D  -- 3.33333333333329318027e-01
 
-abbrev AT1 : Float
+abbrev pub AT1 : Float
 AT1 = literal 0xBFC99999_9998EBC4  -- -1.99999999998764832476e-01
 
-abbrev AT2 : Float
+abbrev pub AT2 : Float
 AT2 = literal 0x3FC24924_920083FF  -- 1.42857142725034663711e-01
 
-abbrev AT3 : Float
+abbrev pub AT3 : Float
 AT3 = literal 0xBFBC71C6_FE231671  -- -1.11111104054623557880e-01
 
-abbrev AT4 : Float
+abbrev pub AT4 : Float
 AT4 = literal 0x3FB745CD_C54C206E  -- 9.09088713343650656196e-02
 
-abbrev AT5 : Float
+abbrev pub AT5 : Float
 AT5 = literal 0xBFB3B0F2_AF749A6D  -- -7.69187620504482999495e-02
 
-abbrev AT6 : Float
+abbrev pub AT6 : Float
 AT6 = literal 0x3FB10D66_A0D03D51  -- 6.66107313738753120669e-02
 
-abbrev AT7 : Float
+abbrev pub AT7 : Float
 AT7 = literal 0xBFADDE2D_52DEFD9A  -- -5.83357013379057348645e-02
 
-abbrev AT8 : Float
+abbrev pub AT8 : Float
 AT8 = literal 0x3FA97B4B_24760DEB  -- 4.97687799461593236017e-02
 
-abbrev AT9 : Float
+abbrev pub AT9 : Float
 AT9 = literal 0xBFA2B444_2C6A6C2F  -- -3.65315727442169155270e-02
 
-abbrev AT10 : Float
+abbrev pub AT10 : Float
 AT10 = literal 0x3F90AD3A_E322DA11  -- 1.62858201153657823623e-02
 
 -- from 2^66 up, infinity and NaN: a quarter turn, or the NaN
@@ -75,27 +75,27 @@ abbrev pub atanHuge : Float → Float
 atanHuge x = if isNan x then x else signed (sign x) (ATANHI3 +ᶠ literal 0x03800000)
 
 -- the new x, with ATANHI and ATANLO of its id: id 0, from 7/16 to 11/16
-abbrev atHalf : Float → Reduced
+abbrev pub atHalf : Float → Reduced
 atHalf x = record { x = (two *ᶠ x -ᶠ one) /ᶠ (two +ᶠ x); high = ATANHI0; low = ATANLO0 }
 
 -- id 1, to 19/16
-abbrev atOne : Float → Reduced
+abbrev pub atOne : Float → Reduced
 atOne x = record { x = (x -ᶠ one) /ᶠ (x +ᶠ one); high = ATANHI1; low = ATANLO1 }
 
 -- id 2, to 39/16
-abbrev atThreeHalves : Float → Reduced
+abbrev pub atThreeHalves : Float → Reduced
 atThreeHalves x = record { x = (x -ᶠ threeHalves) /ᶠ (one +ᶠ threeHalves *ᶠ x); high = ATANHI2; low = ATANLO2 }
 
 -- id 3, to 2^66
-abbrev atInfinity : Float → Reduced
+abbrev pub atInfinity : Float → Reduced
 atInfinity x = record { x = neg one /ᶠ x; high = ATANHI3; low = ATANLO3 }
 
 -- below 19/16
-abbrev reducedNear : ℕ → Float → Reduced
+abbrev pub reducedNear : ℕ → Float → Reduced
 reducedNear ix x = if ltb ix 0x3fe60000 then atHalf x else atOne x
 
 -- from 19/16 up
-abbrev reducedFar : ℕ → Float → Reduced
+abbrev pub reducedFar : ℕ → Float → Reduced
 reducedFar ix x = if ltb ix 0x40038000 then atThreeHalves x else atInfinity x
 
 -- by the id of |x|, which the high word ix tells
@@ -130,7 +130,7 @@ atan x =
 -- ---- atan2.rs
 
 -- what π rounded lacks of the true one
-abbrev PI-LO : Float
+abbrev pub PI-LO : Float
 PI-LO = literal 0x3CA1A626_33145C07  -- 1.2246467991473531772E-16
 
 -- x is 1
@@ -158,7 +158,7 @@ abbrev pub atInfiniteX : ℕ → ℕ → Float
 atInfiniteX m iy = if eqb iy 0x7ff00000 then bothInfinite m else infiniteX m
 
 -- x is below 0, and y/x below 2^-64 in magnitude. The sums of words do not wrap, here and in `tooSteep`: a word is below 2^31.
-abbrev tooFlat : Float → Float → Bool
+abbrev pub tooFlat : Float → Float → Bool
 tooFlat y x = eqb (sign x) 1 && ltb (high-word y + 64 * 2 ^ 20) (high-word x)
 
 -- z: the arctangent of |y/x|
@@ -170,7 +170,7 @@ abbrev pub inQuadrant : ℕ → Float → Float
 inQuadrant m z = choose m z (neg z) (pi -ᶠ (z -ᶠ PI-LO)) ((z -ᶠ PI-LO) -ᶠ pi)
 
 -- y/x is above 2^64 in magnitude, or y is infinite
-abbrev tooSteep : ℕ → ℕ → Bool
+abbrev pub tooSteep : ℕ → ℕ → Bool
 tooSteep iy ix = ltb (ix + 64 * 2 ^ 20) iy || eqb iy 0x7ff00000
 
 -- the angle of the point (x, y), where neither is a NaN; m is twice the sign of x, and the sign of y

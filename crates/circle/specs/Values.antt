@@ -10,7 +10,8 @@ use Rattle.checked.specs.Numbers.{literal}
 use Rattle.words.specs.Words.{choose}
 use Rattle.words.specs.Special.{minus, nought, least, one, greatest, infinity, not-a-number}
 use Rattle.circle.specs.declared.Sines.{Sines}
-use Rattle.circle.specs.Circle.{secondRound, medium, toFive, toNine, remPio2, turnedSine, sine, turnedSines, sines, sineOrZero, sinesOrZeros, sinC, sincosC}
+use Rattle.reduction.specs.Reduction.{secondRound, medium, toFive, toNine, remPio2}
+use Rattle.circle.specs.Circle.{turnedSine, sine, turnedSines, sines, sineOrZero, sinesOrZeros, sinC, sincosC}
 
 -- 1,048,576, and the next number up
 abbrev limit : ℕ

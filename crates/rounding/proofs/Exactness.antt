@@ -14,7 +14,7 @@ use lib.Ieee.Back.{round-whole}
 use Rattle.rounding.specs.Whole.{ceil, round-away, floored, ceiled, halved-up}
 use Rattle.rounding.specs.Root.{root}
 use Rattle.rounding.specs.Values.{fits-small, whole-is}
-use Rattle.rounding.proofs.Roots.{root-floor}
+use Rattle.rounding.specs.Floors.{root-floor}
 
 whole : (f : Format) (s : Bool) (m a k : ℕ) → T (fits f (fin s m (pos a))) → k ≡ m * 2 ^ a → HasValue (round f s k 1) s k 1
 whole f s m a k t e =

@@ -1,79 +1,18 @@
--- Square roots of whole numbers, and what `round-root` gives: `root n` is the r with r * r ≤ n < (r + 1) * (r + 1); there is one whole number nearest to a root;
+-- Square roots of whole numbers, and what `round-root` gives: there is one whole number nearest to a root;
 -- and where num / den, in squares of the format's unit, is n * 4 ^ h, with a root of n that has prec digits, `round-root` is that whole number times 2 ^ h units. Assumes nothing.
 use mathlib.Core.Path.{_≡_, refl, sym, ap, _∙_, subst}
-use mathlib.Core.Bool.{Bool, true, false, not, _&&_, cond}
+use mathlib.Core.Bool.{false, not}
 use Prim.Native.Nat.{ℕ, zero, suc, _+_, _-_, _*_, _/_, _%_, _^_, _≤_, _<_, zero-le, compare, Ordering, Ordering·lt, Ordering·eq, Ordering·gt}
-use native.Mathlib.Nat.{le-refl, le-trans, le-of-eq, le-of-lt, le-antisymm, lt-of-lt-of-le, lt-of-le-of-lt, lt-of-not-le, lt-irrefl, le-of-suc-le-suc, not-le-of-lt, add-comm, add-assoc, add-left-comm, mul-one, one-mul, mul-assoc, mul-comm, mul-left-comm, mul-right-comm, mul-add, add-mul, mul-suc, suc-mul, mul-pos, mul-le-mul-left, mul-le-mul-right, mul-lt-mul-of-pos-right, lt-of-mul-lt-mul-right, le-of-mul-le-mul-right, eq-of-mul-eq-mul-right, mul-div-cancel, zero-lt-suc, pow-succ', div-eq-of-lt-le, div-lt-iff-lt-mul, div-le-of-le-mul, div-add-mod', mod-lt}
+use native.Mathlib.Nat.{le-trans, le-of-eq, le-antisymm, lt-of-lt-of-le, lt-of-le-of-lt, lt-of-not-le, not-le-of-lt, mul-assoc, mul-comm, mul-left-comm, mul-add, add-mul, mul-suc, suc-mul, mul-pos, mul-le-mul-left, mul-le-mul-right, mul-lt-mul-of-pos-right, lt-of-mul-lt-mul-right, eq-of-mul-eq-mul-right, mul-div-cancel, zero-lt-suc, div-eq-of-lt-le, div-le-of-le-mul, div-add-mod', mod-lt}
 use native.Mathlib.Omega.{arith}
-use lib.Dec.{T, leb, ltb, eqb, leb→le, nleb→lt, isLe, isEq, eqb→eq, eqb-refl}
+use lib.Dec.{T, eqb, leb→le, nleb→lt, isLe, isEq, eqb→eq, eqb-refl}
 use lib.Arith.{lt-of-le-ne}
 use lib.Pow.{pow-add, pow-pos, pow-mono}
 use lib.Ieee.{Float, Format, prec, low, size, nearest, units}
-use lib.Ieee.Digits.{size-lt, size-le, size-reaches}
+use lib.Ieee.Digits.{size-lt, size-le}
 use lib.Ieee.Fits.{two, two-le-pos}
-use Rattle.rounding.specs.Root.{digits, root, round-root, NearRoot}
-
--- ---- squares and their order
-
-sq-mono : {a b : ℕ} → a ≤ b → a * a ≤ b * b
-sq-mono {a} {b} h = le-trans (mul-le-mul-left a h) (mul-le-mul-right b h)
-
-pub sq-back : (a b : ℕ) → a * a < b * b → a < b
-sq-back a b h = lt-of-not-le (λ (g : b ≤ a). not-le-of-lt h (sq-mono g))
-
-sq-next : (r : ℕ) → (r + 1) * (r + 1) ≡ r * r + 2 * r + 1
-sq-next r = add-mul r 1 (r + 1) ∙ go (mul-add r r 1)
-  where
-    go : r * (r + 1) ≡ r * r + r * 1 → r * (r + 1) + 1 * (r + 1) ≡ r * r + 2 * r + 1
-    go e = omega arith
-
-sq-scaled : (a p : ℕ) → a * p * (a * p) ≡ a * a * (p * p)
-sq-scaled a p = simp (mul-assoc, mul-left-comm)
-
-sq-twice : (r : ℕ) → 2 * r * (2 * r) ≡ 4 * (r * r)
-sq-twice r = mul-assoc 2 r (2 * r) ∙ ap (λ (k : ℕ). 2 * k) (mul-left-comm r 2 r) ∙ sym (mul-assoc 2 2 (r * r))
-
--- ---- the whole part of a root
-
-abbrev pub Floor : ℕ → ℕ → Type 0
-Floor n r = (r * r ≤ n) × (n < (r + 1) * (r + 1))
-
--- from the root p of n / 4
-step : (n p : ℕ) → Floor (n / 4) p → Floor n (cond (leb ((2 * p + 1) * (2 * p + 1)) n) (2 * p + 1) (2 * p))
-step n p h = go (leb ((2 * p + 1) * (2 * p + 1)) n) (leb→le ((2 * p + 1) * (2 * p + 1)) n) (nleb→lt ((2 * p + 1) * (2 * p + 1)) n)
-  where
-    a : 2 * p * (2 * p) ≡ 4 * (p * p)
-    a = sq-twice p
-
-    lo : 2 * p * (2 * p) ≤ n
-    lo = omega (arith, a, h .0)
-
-    b : (2 * p + 1 + 1) * (2 * p + 1 + 1) ≡ 4 * ((p + 1) * (p + 1))
-    b = ap (λ (k : ℕ). k * k) (twice p) ∙ sq-twice (p + 1)
-      where
-        twice : (k : ℕ) → 2 * k + 1 + 1 ≡ 2 * (k + 1)
-        twice k = omega arith
-
-    hi : n < (2 * p + 1 + 1) * (2 * p + 1 + 1)
-    hi = omega (arith, b, h .1)
-
-    go : (t : Bool) → (T t → (2 * p + 1) * (2 * p + 1) ≤ n) → (T (not t) → n < (2 * p + 1) * (2 * p + 1)) → Floor n (cond t (2 * p + 1) (2 * p))
-    go true l g = (l tt, hi)
-    go false l g = (lo, g tt)
-
-quarter : (n p q : ℕ) → q * q ≡ 4 * (p * p) → n < q * q → n / 4 < p * p
-quarter n p q e h = omega arith
-
-digits-floor : (k n : ℕ) → n < 2 ^ k * 2 ^ k → Floor n (digits k n)
-unfolding digits
-digits-floor zero n h = (zero-le, h)
-digits-floor (suc k) n h =
-    step n (digits k (n / 4))
-    (digits-floor k (n / 4) (quarter n (2 ^ k) (2 ^ suc k) (ap (λ (z : ℕ). z * z) (pow-succ' 2 k) ∙ sq-twice (2 ^ k)) h))
-
-pub root-floor : (n : ℕ) → Floor n (root n)
-unfolding root
-root-floor n = digits-floor (size n) n (lt-of-lt-of-le (size-lt n) (le-trans (le-of-eq (sym (mul-one (2 ^ size n)))) (mul-le-mul-left (2 ^ size n) (pow-pos (size n)))))
+use Rattle.rounding.specs.Root.{root, round-root, NearRoot}
+use Rattle.rounding.specs.Floors.{sq-mono, sq-back, sq-next, sq-scaled, sq-twice, Floor, root-floor}
 
 -- ---- there is one whole number nearest to a root
 

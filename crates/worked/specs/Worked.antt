@@ -12,7 +12,8 @@ use Rattle.checked.specs.Numbers.{zero, one}
 use Rattle.words.specs.Words.{fabs, signed, choose}
 use Rattle.rounding.specs.Root.{sqrt}
 use Rattle.rounding.specs.Whole.{ceil}
-use Rattle.circle.specs.Circle.{secondRound, medium, toFive, toNine, remPio2, turnedSines, sines, sinesOrZeros}
+use Rattle.reduction.specs.Reduction.{secondRound, medium, toFive, toNine, remPio2}
+use Rattle.circle.specs.Circle.{turnedSines, sines, sinesOrZeros}
 use Rattle.roots.specs.Roots.{acosFar, acosNear, acos}
 use Rattle.chords.specs.Chords.{quotientC, chordsC, clamped, perTurnC}
 use Rattle.counts.specs.Counts.{limitedC, countC}

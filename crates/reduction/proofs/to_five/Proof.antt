@@ -1,8 +1,8 @@
 use borrow.Author.Needs.{needs}
-use Rattle.circle.specs.Circle.{toFive}
+use Rattle.reduction.specs.Reduction.{toFive}
 use borrow.Author.Tests.{le-leb, lt-leb, eq-eqb, ne-eqb}
-use Rattle.circle.proofs.to_five.Statement.{statement}
-use Rattle.circle.proofs.to_five.Tie as tie
+use Rattle.reduction.proofs.to_five.Statement.{statement}
+use Rattle.reduction.proofs.to_five.Tie as tie
 
 medium-requires : tie.Need-medium-requires
 medium-requires c κs = search needs

@@ -1,9 +1,9 @@
 use Rattle.words.specs.Laws.{gap-yes, gap-no}
-use Rattle.circle.proofs.Quarters.{tmp-no-nan, tmp-ends}
+use Rattle.reduction.proofs.Quarters.{tmp-no-nan, tmp-ends}
 use borrow.Author.Needs.{needs}
-use Rattle.circle.specs.Circle.{medium}
-use Rattle.circle.proofs.medium.Statement.{statement}
-use Rattle.circle.proofs.medium.Tie as tie
+use Rattle.reduction.specs.Reduction.{medium}
+use Rattle.reduction.proofs.medium.Statement.{statement}
+use Rattle.reduction.proofs.medium.Tie as tie
 
 float-to-bits-quarter : tie.Need-float-to-bits-quarter
 float-to-bits-quarter c = tmp-no-nan (c .args .x) (c .pre)

@@ -1,8 +1,8 @@
 use borrow.Author.Needs.{needs}
-use Rattle.circle.specs.Circle.{remPio2}
+use Rattle.reduction.specs.Reduction.{remPio2}
 use borrow.Author.Tests.{le-leb, lt-leb}
-use Rattle.circle.proofs.rem_pio2.Statement.{statement}
-use Rattle.circle.proofs.rem_pio2.Tie as tie
+use Rattle.reduction.proofs.rem_pio2.Statement.{statement}
+use Rattle.reduction.proofs.rem_pio2.Tie as tie
 
 high-word-requires : tie.Need-high-word-requires
 high-word-requires c κs = search needs

@@ -1,8 +1,8 @@
 use Rattle.words.specs.Laws.{gap-yes, gap-no}
 use borrow.Author.Needs.{needs}
-use Rattle.circle.specs.Circle.{secondRound}
-use Rattle.circle.proofs.second_round.Statement.{statement}
-use Rattle.circle.proofs.second_round.Tie as tie
+use Rattle.reduction.specs.Reduction.{secondRound}
+use Rattle.reduction.proofs.second_round.Statement.{statement}
+use Rattle.reduction.proofs.second_round.Tie as tie
 
 exponent-requires : tie.Need-exponent-requires
 exponent-requires c κs = search needs

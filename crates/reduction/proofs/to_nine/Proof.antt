@@ -1,8 +1,8 @@
 use borrow.Author.Needs.{needs}
-use Rattle.circle.specs.Circle.{toNine}
+use Rattle.reduction.specs.Reduction.{toNine}
 use borrow.Author.Tests.{le-leb, lt-leb, eq-eqb, ne-eqb}
-use Rattle.circle.proofs.to_nine.Statement.{statement}
-use Rattle.circle.proofs.to_nine.Tie as tie
+use Rattle.reduction.proofs.to_nine.Statement.{statement}
+use Rattle.reduction.proofs.to_nine.Tie as tie
 
 medium-requires : tie.Need-medium-requires
 medium-requires c κs = search needs
