@@ -1,4 +1,4 @@
--- Squares and their order, and the whole part of a root: `root n` is the r with r * r ≤ n < (r + 1) * (r + 1). Assumes nothing.
+-- The whole part of a root: `root n` is the r with r * r ≤ n < (r + 1) * (r + 1). Assumes nothing.
 use mathlib.Core.Path.{_≡_, refl, sym, ap, _∙_}
 use mathlib.Core.Bool.{Bool, true, false, not, cond}
 use Prim.Native.Nat.{ℕ, zero, suc, _+_, _*_, _/_, _^_, _≤_, _<_, zero-le}
@@ -8,27 +8,8 @@ use lib.Dec.{T, leb, leb→le, nleb→lt}
 use lib.Pow.{pow-pos}
 use lib.Ieee.{size}
 use lib.Ieee.Digits.{size-lt}
+use Rattle.whole_roots.specs.Squares.{sq-back, sq-next, sq-twice}
 use Rattle.rounding.specs.Root.{digits, root}
-
--- ---- squares and their order
-
-pub sq-mono : {a b : ℕ} → a ≤ b → a * a ≤ b * b
-sq-mono {a} {b} h = le-trans (mul-le-mul-left a h) (mul-le-mul-right b h)
-
-pub sq-back : (a b : ℕ) → a * a < b * b → a < b
-sq-back a b h = lt-of-not-le (λ (g : b ≤ a). not-le-of-lt h (sq-mono g))
-
-pub sq-next : (r : ℕ) → (r + 1) * (r + 1) ≡ r * r + 2 * r + 1
-sq-next r = add-mul r 1 (r + 1) ∙ go (mul-add r r 1)
-  where
-    go : r * (r + 1) ≡ r * r + r * 1 → r * (r + 1) + 1 * (r + 1) ≡ r * r + 2 * r + 1
-    go e = omega arith
-
-pub sq-scaled : (a p : ℕ) → a * p * (a * p) ≡ a * a * (p * p)
-sq-scaled a p = simp (mul-assoc, mul-left-comm)
-
-pub sq-twice : (r : ℕ) → 2 * r * (2 * r) ≡ 4 * (r * r)
-sq-twice r = mul-assoc 2 r (2 * r) ∙ ap (λ (k : ℕ). 2 * k) (mul-left-comm r 2 r) ∙ sym (mul-assoc 2 2 (r * r))
 
 -- ---- the whole part of a root
 

@@ -1,6 +1,6 @@
 -- IEEE 754's squareRoot, rounded to the nearest value, a tie to the even one, defined by comparison of whole numbers. Definitions only.
 -- `proofs/NearestRoot.antt` shows that no value of an f64 is nearer to the exact root.
-use Prim.Native.Nat.{ℕ, zero, suc, _+_, _-_, _*_, _/_, _^_, _≤_, _<_, compare}
+use Prim.Native.Nat.{ℕ, zero, suc, _+_, _-_, _*_, _/_, _^_, compare}
 use mathlib.Core.Bool.{Bool, true, false, cond}
 use lib.Dec.{leb}
 use lib.Ieee.{Float, nan, inf, fin, Format, prec, low, up, down, size, nearest, units}
@@ -38,8 +38,3 @@ sqrt f (inf false) = inf false
 sqrt f (fin s zero e) = fin s zero e
 sqrt f (fin true (suc m) e) = nan
 sqrt f (fin false (suc m) e) = round-root f (suc m * up e) (down e)
-
--- t is the whole number nearest to the root of n: t - 1/2 < root < t + 1/2, squared. The squares of the two middles are no whole numbers, so there is no tie.
-pub record NearRoot (n t : ℕ) : Type 0 where
-  pub under : n ≤ t * t + t
-  pub over : t * t < n + t

@@ -2,9 +2,9 @@
 -- Both keep s below 2 ^ 27, so that its square fits. The measures are s, and what s lacks of 2 ^ 27. Assumes nothing.
 use Prim.Native.Nat.{ℕ, _+_, _-_, _*_, _^_, _≤_, _<_}
 use native.Mathlib.Omega.{arith}
-use Rattle.rounding.proofs.Roots.{sq-27, sq-up, sq-pos}
-use Rattle.rounding.proofs.whole_root.Statement.{statement}
-use Rattle.rounding.proofs.whole_root.Tie as tie
+use Rattle.whole_roots.proofs.Digits.{sq-27, sq-up, sq-pos}
+use Rattle.whole_roots.proofs.whole_root.Statement.{statement}
+use Rattle.whole_roots.proofs.whole_root.Tie as tie
 
 abbrev Inv-loop : tie.InvT-loop
 Inv-loop n s₀ s = s < 2 ^ 27

@@ -3,8 +3,8 @@ use Prim.Native.Nat.{ℕ, _+_, _-_, _*_, _/_, _^_, _≤_}
 use native.Mathlib.Nat.{mul-le-mul-right, sub-le, div-le-self}
 use native.Mathlib.Omega.{arith}
 use borrow.Author.Needs.{needs}
-use Rattle.rounding.proofs.guess.Statement.{statement}
-use Rattle.rounding.proofs.guess.Tie as tie
+use Rattle.whole_roots.proofs.guess.Statement.{statement}
+use Rattle.whole_roots.proofs.guess.Tie as tie
 
 -- the body's v, a, g and h
 abbrev v : ℕ → ℕ

@@ -1,9 +1,9 @@
--- `nearest_root` meets its contract. The arithmetic is in `proofs/Roots.antt`. Assumes nothing.
+-- `nearest_root` meets its contract. The arithmetic is in `proofs/Digits.antt`. Assumes nothing.
 use Prim.Native.Nat.{ℕ, _+_, _*_, _^_, _≤_, _<_}
 use native.Mathlib.Omega.{arith}
-use Rattle.rounding.proofs.Roots.{sq-27, Bounds, bounds, near-up, near-same, near-down}
-use Rattle.rounding.proofs.nearest_root.Statement.{statement}
-use Rattle.rounding.proofs.nearest_root.Tie as tie
+use Rattle.whole_roots.proofs.Digits.{sq-27, Bounds, bounds, near-up, near-same, near-down}
+use Rattle.whole_roots.proofs.nearest_root.Statement.{statement}
+use Rattle.whole_roots.proofs.nearest_root.Tie as tie
 
 -- the bounds of what the body computes, with n and s for the argument and what `whole_root` returned
 module _ (c : tie.After-whole-root) where

@@ -1,0 +1,2 @@
+pub mod NearRoot
+pub mod Squares
