@@ -1,38 +1,19 @@
--- What the arctangents give at a NaN, and where one argument of atan2 is a zero (ISO C, Annex F). Assumes nothing.
-use mathlib.Core.Path.{_≡_, refl, sym, ap, _∙_}
+-- What atan2 gives where one argument is a zero (ISO C, Annex F). Assumes nothing.
+use mathlib.Core.Path.{_≡_, refl, _∙_}
 use mathlib.Core.Bool.{Bool, true, false, cond}
 use Prim.Native.Nat.{ℕ, _+_, _*_, _/_, _^_}
 use native.Mathlib.Omega.{arith}
 use lib.Dec.{T}
 use borrow.Author.Tests.{ne-eqb}
-use lib.Ieee.{Float, nan, binary64, fits, neg, lt, isNan, toBits}
-use lib.Ieee.Compare.{differs-from-itself}
+use lib.Ieee.{Float, binary64, fits, neg, lt, isNan, toBits}
 use Rattle.checked.specs.Patterns.{bits}
-use Rattle.checked.specs.PatternLaws.{yes, ne-self}
 use Rattle.checked.specs.Numbers.{two, pi}
-use Rattle.words.specs.Words.{_/ᶠ_, if_then_else_, sign, choose, fabs}
+use Rattle.words.specs.Words.{_/ᶠ_, if_then_else_, sign, choose}
 use Rattle.words.specs.Signs.{nought, noughtOf, above-sign, below-sign, above-no-nan, below-no-nan, above-size, below-size}
-use Rattle.arctangent.specs.Arctangent.{atan, atan2, angle, isOne}
-
--- ---- a NaN is its own arctangent
-
-nan-itself : atan nan ≡ nan
-unfolding atan isNan toBits
-nan-itself = refl
-
-pub atan-nan : (x : Float) → isNan x ≡ true → x ≡ atan x
-atan-nan x h = let e = differs-from-itself x (yes (ne-self x ∙ h)) in e ∙ sym (ap atan e ∙ nan-itself)
-
-pub atan-nan-size : (x : Float) → isNan x ≡ true → x ≡ atan (fabs x)
-unfolding fabs
-atan-nan-size x h = let e = differs-from-itself x (yes (ne-self x ∙ h)) in e ∙ sym (ap (λ (v : Float). atan (fabs v)) e ∙ nan-itself)
+use Rattle.atan.specs.Laws.{atan-nought}
+use Rattle.arctangent.specs.Arctangent.{atan2, angle, isOne}
 
 -- ---- y is ±0
-
-pub atan-nought : (s : Bool) → atan (noughtOf s) ≡ noughtOf s
-unfolding atan toBits
-atan-nought true = refl
-atan-nought false = refl
 
 at-nought : (s : Bool) (x : Float) (k : ℕ) → isNan x ≡ false → sign x ≡ k
     → atan2 (noughtOf s) x ≡ (if isOne x then noughtOf s else choose (2 * k + cond s 1 0) (noughtOf s) (noughtOf s) pi (neg pi))

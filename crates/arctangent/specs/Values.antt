@@ -6,7 +6,8 @@ use lib.Ieee.{Float, add, sub, mul, div, neg, isNan, toBits, ofBits}
 use Rattle.checked.specs.Numbers.{literal}
 use Rattle.words.specs.Words.{choose, signed, fabs}
 use Rattle.words.specs.Special.{minus, nought, least, one, greatest, infinity, not-a-number, π, π/2, π/4, 3π/4}
-use Rattle.arctangent.specs.Arctangent.{reduced, atan, isOne, ratioAngle, angle, atan2}
+use Rattle.arctangent.specs.Arctangent.{isOne, ratioAngle, angle, atan2}
+use Rattle.atan.specs.Atan.{reduced, atan}
 
 -- the patterns of y, of x and of the angle
 record Row : Type 0 where

@@ -18,7 +18,8 @@ use Rattle.roots.specs.Roots.{acosFar, acosNear, acos}
 use Rattle.chords.specs.Chords.{quotientC, chordsC, clamped, perTurnC}
 use Rattle.counts.specs.Counts.{limitedC, countC}
 use Rattle.rows.specs.Rows.{upTo}
-use Rattle.arctangent.specs.Arctangent.{reduced, atan, isOne, ratioAngle, angle, atan2}
+use Rattle.atan.specs.Atan.{reduced, atan}
+use Rattle.arctangent.specs.Arctangent.{isOne, ratioAngle, angle, atan2}
 use Rattle.order.specs.Least.{negative, least, greatest}
 use Rattle.vectors.specs.declared.Vec2.{Vec2}
 use Rattle.vectors.specs.declared.Vec3.{Vec3}

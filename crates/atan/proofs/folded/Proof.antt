@@ -1,6 +1,6 @@
 use borrow.Author.Needs.{needs}
-use Rattle.arctangent.proofs.folded.Statement.{statement}
-use Rattle.arctangent.proofs.folded.Tie as tie
+use Rattle.atan.proofs.folded.Statement.{statement}
+use Rattle.atan.proofs.folded.Tie as tie
 
 series-requires : tie.Need-series-requires
 series-requires c κs = search needs

@@ -2,13 +2,13 @@ use lib.Dec.{T}
 use lib.Ieee.{binary64, fits}
 use Rattle.checked.specs.PatternLaws.{no}
 use Rattle.words.specs.Laws.{high-word-fabs, signed-fabs, fabs-twice, fabs-nan}
-use Rattle.arctangent.specs.Laws.{atan-nan-size}
+use Rattle.atan.specs.Laws.{atan-nan-size}
 use borrow.Author.Needs.{needs}
-use Rattle.arctangent.specs.Arctangent.{atan}
+use Rattle.atan.specs.Atan.{atan}
 use borrow.Author.Tests.{lt-ltb, le-ltb, le-leb, lt-leb}
 use mathlib.Core.Path.{sym, _∙_, subst}
-use Rattle.arctangent.proofs.atan_size.Statement.{statement}
-use Rattle.arctangent.proofs.atan_size.Tie as tie
+use Rattle.atan.proofs.atan_size.Statement.{statement}
+use Rattle.atan.proofs.atan_size.Tie as tie
 
 held : (c : tie.Start) → T (fits binary64 (c .args .x))
 held c = subst T (sym (c .good .0 .1)) tt

@@ -3,8 +3,8 @@ use borrow.Author.Needs.{needs}
 use lib.Dec.{T}
 use lib.Ieee.{binary64, fits}
 use Rattle.words.specs.Laws.{fabs-bits, size-number}
-use Rattle.arctangent.proofs.fabs_number.Statement.{statement}
-use Rattle.arctangent.proofs.fabs_number.Tie as tie
+use Rattle.atan.proofs.fabs_number.Statement.{statement}
+use Rattle.atan.proofs.fabs_number.Tie as tie
 
 held : (c : tie.Start) → T (fits binary64 (c .args .x))
 held c = subst T (sym (c .good .0 .1)) tt

@@ -1,11 +1,11 @@
 use Rattle.checked.specs.PatternLaws.{no}
-use Rattle.arctangent.specs.Laws.{atan-nan}
+use Rattle.atan.specs.Laws.{atan-nan}
 use borrow.Author.Needs.{needs}
-use Rattle.arctangent.specs.Arctangent.{atan}
+use Rattle.atan.specs.Atan.{atan}
 use borrow.Author.Tests.{lt-ltb, le-ltb, le-leb, lt-leb}
 use mathlib.Core.Path.{sym, _∙_}
-use Rattle.arctangent.proofs.atan.Statement.{statement}
-use Rattle.arctangent.proofs.atan.Tie as tie
+use Rattle.atan.proofs.atan.Statement.{statement}
+use Rattle.atan.proofs.atan.Tie as tie
 
 is-nan-requires : tie.Need-is-nan-requires
 is-nan-requires c κs = search needs

@@ -1,7 +1,7 @@
-use Rattle.arctangent.specs.Arctangent.{reduced}
+use Rattle.atan.specs.Atan.{reduced}
 use borrow.Author.Tests.{lt-ltb, le-ltb}
-use Rattle.arctangent.proofs.reduction.Statement.{statement}
-use Rattle.arctangent.proofs.reduction.Tie as tie
+use Rattle.atan.proofs.reduction.Statement.{statement}
+use Rattle.atan.proofs.reduction.Tie as tie
 
 returns : tie.Need-returns
 unfolding reduced

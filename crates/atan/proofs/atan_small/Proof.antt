@@ -1,7 +1,7 @@
 use borrow.Author.Needs.{needs}
 use borrow.Author.Tests.{lt-ltb, le-ltb}
-use Rattle.arctangent.proofs.atan_small.Statement.{statement}
-use Rattle.arctangent.proofs.atan_small.Tie as tie
+use Rattle.atan.proofs.atan_small.Statement.{statement}
+use Rattle.atan.proofs.atan_small.Tie as tie
 
 series-requires : tie.Need-series-requires
 series-requires c κs = search needs
