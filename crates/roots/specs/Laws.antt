@@ -10,7 +10,9 @@ use lib.Ieee.{Float, nan, inf, fin, binary64, fits, toBits, ofBits}
 use Rattle.checked.specs.Numbers.{literal}
 use Rattle.words.specs.Words.{size}
 use Rattle.words.specs.Signs.{finite-exponent}
-use Rattle.roots.specs.Roots.{acosFar, acos, greater, lesser, hypotOrdered, hypot}
+use Rattle.arccosine.specs.Arccosine.{acosFar}
+use Rattle.hypotenuse.specs.Hypotenuse.{greater, lesser, hypotOrdered}
+use Rattle.roots.specs.Roots.{acos, hypot}
 
 -- the infinity's pattern is the greater one, and its exponent is all ones
 beside : (b : ℕ) → b / 2 ^ 52 < 2047 → hypotOrdered 0x7ff00000_00000000 b ≡ inf false

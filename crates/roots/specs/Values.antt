@@ -6,7 +6,9 @@ use lib.Ieee.{Float, add, sub, mul, div, neg, toBits, ofBits}
 use Rattle.checked.specs.Numbers.{literal}
 use Rattle.rounding.specs.Root as Root
 use Rattle.words.specs.Special.{minus, nought, least, one, greatest, infinity, not-a-number, π, π/2}
-use Rattle.roots.specs.Roots.{acosFar, acosNear, acos, greater, lesser, hypotOrdered, hypot}
+use Rattle.arccosine.specs.Arccosine.{acosFar, acosNear}
+use Rattle.hypotenuse.specs.Hypotenuse.{greater, lesser, hypotOrdered}
+use Rattle.roots.specs.Roots.{acos, hypot}
 
 -- ---- acos
 

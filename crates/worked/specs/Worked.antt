@@ -14,7 +14,8 @@ use Rattle.rounding.specs.Root.{sqrt}
 use Rattle.rounding.specs.Whole.{ceil}
 use Rattle.reduction.specs.Reduction.{secondRound, medium, toFive, toNine, remPio2}
 use Rattle.circle.specs.Circle.{turnedSines, sines, sinesOrZeros}
-use Rattle.roots.specs.Roots.{acosFar, acosNear, acos}
+use Rattle.arccosine.specs.Arccosine.{acosFar, acosNear}
+use Rattle.roots.specs.Roots.{acos}
 use Rattle.chords.specs.Chords.{quotientC, chordsC, clamped, perTurnC}
 use Rattle.counts.specs.Counts.{limitedC, countC}
 use Rattle.rows.specs.Rows.{upTo}

@@ -1,7 +1,7 @@
-use Rattle.roots.specs.Roots.{lesser}
+use Rattle.hypotenuse.specs.Hypotenuse.{lesser}
 use borrow.Author.Tests.{lt-ltb, le-ltb}
-use Rattle.roots.proofs.lesser.Statement.{statement}
-use Rattle.roots.proofs.lesser.Tie as tie
+use Rattle.hypotenuse.proofs.lesser.Statement.{statement}
+use Rattle.hypotenuse.proofs.lesser.Tie as tie
 
 returns : tie.Need-returns
 unfolding lesser

@@ -1,8 +1,8 @@
 use borrow.Author.Needs.{needs}
-use Rattle.roots.specs.Roots.{acosFar}
+use Rattle.arccosine.specs.Arccosine.{acosFar}
 use borrow.Author.Tests.{eq-eqb, ne-eqb}
-use Rattle.roots.proofs.acos_far.Statement.{statement}
-use Rattle.roots.proofs.acos_far.Tie as tie
+use Rattle.arccosine.proofs.acos_far.Statement.{statement}
+use Rattle.arccosine.proofs.acos_far.Tie as tie
 
 size-requires : tie.Need-size-requires
 size-requires c κs = search needs

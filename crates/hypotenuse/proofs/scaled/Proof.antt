@@ -1,6 +1,6 @@
 use borrow.Author.Needs.{needs}
-use Rattle.roots.proofs.scaled.Statement.{statement}
-use Rattle.roots.proofs.scaled.Tie as tie
+use Rattle.hypotenuse.proofs.scaled.Statement.{statement}
+use Rattle.hypotenuse.proofs.scaled.Tie as tie
 
 sq-requires : tie.Need-sq-requires
 sq-requires c κs = search needs

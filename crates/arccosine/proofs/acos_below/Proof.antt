@@ -1,6 +1,6 @@
 use borrow.Author.Needs.{needs}
-use Rattle.roots.proofs.acos_below.Statement.{statement}
-use Rattle.roots.proofs.acos_below.Tie as tie
+use Rattle.arccosine.proofs.acos_below.Statement.{statement}
+use Rattle.arccosine.proofs.acos_below.Tie as tie
 
 sqrt-requires : tie.Need-sqrt-requires
 sqrt-requires c κs = search needs

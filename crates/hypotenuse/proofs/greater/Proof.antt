@@ -1,7 +1,7 @@
-use Rattle.roots.specs.Roots.{greater}
+use Rattle.hypotenuse.specs.Hypotenuse.{greater}
 use borrow.Author.Tests.{lt-ltb, le-ltb}
-use Rattle.roots.proofs.greater.Statement.{statement}
-use Rattle.roots.proofs.greater.Tie as tie
+use Rattle.hypotenuse.proofs.greater.Statement.{statement}
+use Rattle.hypotenuse.proofs.greater.Tie as tie
 
 returns : tie.Need-returns
 unfolding greater

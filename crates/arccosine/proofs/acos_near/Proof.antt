@@ -1,8 +1,8 @@
 use borrow.Author.Needs.{needs}
-use Rattle.roots.specs.Roots.{acosNear}
+use Rattle.arccosine.specs.Arccosine.{acosNear}
 use borrow.Author.Tests.{le-leb, lt-leb}
-use Rattle.roots.proofs.acos_near.Statement.{statement}
-use Rattle.roots.proofs.acos_near.Tie as tie
+use Rattle.arccosine.proofs.acos_near.Statement.{statement}
+use Rattle.arccosine.proofs.acos_near.Tie as tie
 
 ratio-requires : tie.Need-ratio-requires
 ratio-requires c κs = search needs

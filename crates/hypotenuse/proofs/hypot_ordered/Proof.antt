@@ -1,9 +1,9 @@
 use Rattle.words.specs.Laws.{gap-yes, gap-no}
 use borrow.Author.Needs.{needs}
-use Rattle.roots.specs.Roots.{hypotOrdered}
+use Rattle.hypotenuse.specs.Hypotenuse.{hypotOrdered}
 use borrow.Author.Tests.{lt-ltb, le-ltb, eq-eqb, ne-eqb}
-use Rattle.roots.proofs.hypot_ordered.Statement.{statement}
-use Rattle.roots.proofs.hypot_ordered.Tie as tie
+use Rattle.hypotenuse.proofs.hypot_ordered.Statement.{statement}
+use Rattle.hypotenuse.proofs.hypot_ordered.Tie as tie
 
 of-bits-requires : tie.Need-of-bits-requires
 of-bits-requires c κs = search needs
