@@ -1,3 +1,4 @@
 pub mod Roots
+pub mod Computations
 pub mod Laws
 pub mod Values

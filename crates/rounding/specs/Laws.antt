@@ -8,6 +8,7 @@ use Rattle.checked.specs.Checked.{isFinite}
 use Rattle.checked.specs.Laws.{tells, one, alone}
 use Rattle.rounding.specs.Whole.{ceil, round-away}
 use Rattle.rounding.specs.Root.{sqrt}
+use Rattle.rounding.specs.Computations.{sqrtC, ceilC, roundC}
 
 pub sqrt-under : (f : Format) (x : Float) → T (isFinite (sqrt f x)) → T (isFinite x)
 unfolding sqrt isFinite
@@ -41,3 +42,5 @@ unfolding alone
 round-tells x p = one (isFinite (round-away binary64 x)) (isFinite x) p (round-under binary64 x)
 
 pub ruleset rounded = (sqrt-tells, ceil-tells, round-tells)
+
+pub ruleset rules = (sqrtC, ceilC, roundC, rounded)

@@ -13,7 +13,10 @@ use lib.Ieee.Compare.{differs-from-itself}
 use Rattle.checked.specs.Patterns.{bits, high-word}
 use Rattle.checked.specs.PatternLaws.{yes, no, ne-self}
 use Rattle.checked.specs.Numbers.{literal}
+use Rattle.checked.specs.Refusals.{NOT-FINITE}
+use Rattle.checked.specs.Checked.{isFinite, nine}
 use Rattle.words.specs.Words.{size, sign, signed, choose, fabs}
+use Rattle.words.specs.Computations.{absC}
 
 -- ---- |x| is the number of the pattern without its sign
 
@@ -147,3 +150,17 @@ chosen (suc zero) a b c d h = refl
 chosen (suc (suc zero)) a b c d h = refl
 chosen (suc (suc (suc zero))) a b c d h = refl
 chosen (suc (suc (suc (suc m)))) a b c d h = absurd (omega arith)
+
+-- ---- |x| is finite exactly where x is, so a note of either is a note of the other
+
+pub abs-finite : (x : Float) → isFinite (fabs x) ≡ isFinite x
+unfolding fabs isFinite
+abs-finite nan = refl
+abs-finite (inf s) = refl
+abs-finite (fin s m e) = refl
+
+pub abs-nine : (x : Float) → nine (fabs x) ≡ nine x
+unfolding nine
+abs-nine x = ap (λ (b : Bool). cond b 0 NOT-FINITE) (abs-finite x)
+
+pub ruleset rules = (absC, abs-nine, abs-finite)
