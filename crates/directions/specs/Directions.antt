@@ -1,17 +1,11 @@
 -- Unit vectors: along a vector, and away from an axis.
-use lib.Ieee.{Float, binary64}
+use lib.Ieee.{Float}
 use Rattle.checked.specs.Refusals.{OUT-OF-RANGE}
-use Rattle.checked.specs.Checked.{Checked, first, _>>=_, given, finite, num, _⊘_, Due, answered, unless}
+use Rattle.checked.specs.Checked.{Checked, first, _>>=_, given, num, _⊘_, Due, answered, unless}
 use Rattle.checked.specs.Numbers.{one}
-use Rattle.rounding.specs.Root.{sqrt}
+use Rattle.rounding.specs.Computations.{sqrtC}
 use Rattle.vectors.specs.declared.Vec3.{Vec3}
 use Rattle.vectors.specs.Vectors.{within3, vec, _⊟_, _⊠_, _⊡_}
-
--- the square root
-abbrev pub sqrtC : Checked Float → Checked Float
-sqrtC m = do
-  x ← m
-  finite (sqrt binary64 x)
 
 -- the length of a vector
 unfoldable pub lengthC : Vec3 → Checked Float

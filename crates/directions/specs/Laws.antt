@@ -5,11 +5,12 @@ use lib.Dec.{T}
 use lib.Ieee.{Float, binary64}
 use Rattle.checked.specs.Checked.{Checked, first, nine, isFinite}
 use Rattle.checked.specs.Laws.{tells, one, two, alone, rules as checked-rules}
+use Rattle.rounding.specs.Computations.{sqrtC}
 use Rattle.rounding.specs.Laws.{sqrt-under, rounded}
 use Rattle.vectors.specs.declared.Vec3.{Vec3}
 use Rattle.vectors.specs.Vectors.{isFinite3, nines, minusC, timesC, dotC}
 use Rattle.vectors.specs.Laws.{alone3, dot-left, times-left, minus-left, minus-right, rules as vectors-rules}
-use Rattle.directions.specs.Directions.{sqrtC, lengthC, unitC, acrossC, radialC}
+use Rattle.directions.specs.Directions.{lengthC, unitC, acrossC, radialC}
 
 pub length-nine : (v : Vec3) → lengthC v .refusal ≡ nine (lengthC v .value)
 unfolding lengthC
