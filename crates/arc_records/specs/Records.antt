@@ -1,0 +1,42 @@
+-- Arcs, motions and boxes as arrays of numbers.
+use mathlib.Core.Bool.{Bool}
+use mathlib.Core.List.{List, [], _∷_}
+use lib.ListN.{getD}
+use lib.Ieee.{Float, nan}
+use Rattle.motions.specs.declared.Rigid.{Rigid}
+use Rattle.profiles.specs.declared.ProfileArc.{ProfileArc}
+use Rattle.arcs.specs.declared.Arc.{Arc}
+use Rattle.boxes.specs.declared.Bounds.{Bounds}
+use Rattle.records.specs.Records.{vec2, vec3At}
+
+-- ---- records from arrays
+-- centre, axis, radius
+abbrev pub arc : List Float → Arc
+arc l = record { center = vec3At l 0 1 2; axis = vec3At l 3 4 5; radius = getD l 6 nan }
+
+-- its centre, and the way beside it
+abbrev pub profileArc : List Float → Bool → ProfileArc
+profileArc l ccw = record { center = vec2 l; ccw = ccw }
+
+-- the rotation row by row, then the shift
+abbrev pub rigid : List Float → Rigid
+rigid l = record {
+  rot = record { x = vec3At l 0 1 2; y = vec3At l 3 4 5; z = vec3At l 6 7 8 };
+  shift = vec3At l 9 10 11;
+}
+
+-- low corner, high corner
+abbrev pub bounds : List Float → Bounds
+bounds l = record { low = vec3At l 0 1 2; high = vec3At l 3 4 5 }
+
+-- ---- records as numbers, in the same order
+abbrev pub ofArc : Arc → List Float
+ofArc a = a .center .x ∷ a .center .y ∷ a .center .z ∷ a .axis .x ∷ a .axis .y ∷ a .axis .z ∷ a .radius ∷ []
+
+abbrev pub ofRigid : Rigid → List Float
+ofRigid m =
+  m .rot .x .x ∷ m .rot .x .y ∷ m .rot .x .z ∷ m .rot .y .x ∷ m .rot .y .y ∷ m .rot .y .z ∷ m .rot .z .x ∷ m .rot .z .y ∷ m .rot .z .z
+    ∷ m .shift .x ∷ m .shift .y ∷ m .shift .z ∷ []
+
+abbrev pub ofBounds : Bounds → List Float
+ofBounds b = b .low .x ∷ b .low .y ∷ b .low .z ∷ b .high .x ∷ b .high .y ∷ b .high .z ∷ []

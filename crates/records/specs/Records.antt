@@ -1,0 +1,59 @@
+-- How records and answers pass to a caller in another language: as arrays of numbers.
+use Prim.Native.Nat.{ℕ, suc}
+use mathlib.Core.Bool.{Bool, cond}
+use mathlib.Core.List.{List, [], _∷_}
+use lib.ListN.{getD, set}
+use lib.Ieee.{Float, nan}
+use Rattle.checked.specs.Checked.{Due, due, refused, settled, unless}
+use Rattle.circle.specs.declared.Sines.{Sines}
+use Rattle.circle.specs.declared.CheckedSines.{CheckedSines}
+use Rattle.vectors.specs.declared.Vec2.{Vec2}
+use Rattle.vectors.specs.declared.Vec3.{Vec3}
+
+-- ---- records from arrays
+-- the vectors whose numbers stand at these places
+abbrev pub vec2At : List Float → ℕ → ℕ → Vec2
+vec2At l i j = record { x = getD l i nan; y = getD l j nan }
+
+abbrev pub vec3At : List Float → ℕ → ℕ → ℕ → Vec3
+vec3At l i j k = record { x = getD l i nan; y = getD l j nan; z = getD l k nan }
+
+abbrev pub vec2 : List Float → Vec2
+vec2 l = vec2At l 0 1
+
+abbrev pub vec3 : List Float → Vec3
+vec3 l = vec3At l 0 1 2
+
+-- ---- records as numbers, in their order
+-- one number, or one count
+abbrev pub alone : {A : Type 0} → A → List A
+alone x = x ∷ []
+
+abbrev pub ofVec2 : Vec2 → List Float
+ofVec2 v = v .x ∷ v .y ∷ []
+
+abbrev pub ofVec3 : Vec3 → List Float
+ofVec3 v = v .x ∷ v .y ∷ v .z ∷ []
+
+abbrev pub ofSines : Sines → List Float
+ofSines a = a .sin ∷ a .cos ∷ []
+
+-- ---- answers
+-- the refusal's number, 0 where there is none
+unfoldable pub numberOf : {A : Type 0} → Due A → ℕ
+numberOf (due a) = 0
+numberOf (refused n) = n
+
+-- the array with a list of numbers from its place k on
+unfoldable pub over : {A : Type 0} → List A → ℕ → List A → List A
+over l k [] = l
+over l k (x ∷ xs) = over (set l k x) (suc k) xs
+
+-- what an array holds after the call: the result's numbers from its start, or what it held before
+unfoldable pub after : {A B : Type 0} → (A → List B) → List B → Due A → List B
+after numbers l (due a) = over l 0 (numbers a)
+after numbers l (refused n) = l
+
+-- a sine and a cosine, or their refusal
+abbrev pub sinesDue : CheckedSines → Due Sines
+sinesDue a = settled (a .refusal) (record { sin = a .sin; cos = a .cos })
