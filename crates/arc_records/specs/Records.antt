@@ -1,12 +1,17 @@
 -- Arcs, motions and boxes as arrays of numbers.
-use mathlib.Core.Bool.{Bool}
+use Prim.Native.Nat.{ℕ}
+use mathlib.Core.Bool.{Bool, cond}
 use mathlib.Core.List.{List, [], _∷_}
-use lib.ListN.{getD}
+use lib.Dec.{eqb}
+use lib.ListN.{getD, set, length}
 use lib.Ieee.{Float, nan}
 use Rattle.motions.specs.declared.Rigid.{Rigid}
 use Rattle.profiles.specs.declared.ProfileArc.{ProfileArc}
 use Rattle.arcs.specs.declared.Arc.{Arc}
 use Rattle.boxes.specs.declared.Bounds.{Bounds}
+use Rattle.checked.specs.Checked.{Due}
+use Rattle.vectors.specs.declared.Vec3.{Vec3}
+use Rattle.rows.specs.Rows as Rows
 use Rattle.records.specs.Records.{vec2, vec3At}
 
 -- ---- records from arrays
@@ -35,8 +40,12 @@ ofArc a = a .center .x ∷ a .center .y ∷ a .center .z ∷ a .axis .x ∷ a .a
 
 abbrev pub ofRigid : Rigid → List Float
 ofRigid m =
-  m .rot .x .x ∷ m .rot .x .y ∷ m .rot .x .z ∷ m .rot .y .x ∷ m .rot .y .y ∷ m .rot .y .z ∷ m .rot .z .x ∷ m .rot .z .y ∷ m .rot .z .z
+    m .rot .x .x ∷ m .rot .x .y ∷ m .rot .x .z ∷ m .rot .y .x ∷ m .rot .y .y ∷ m .rot .y .z ∷ m .rot .z .x ∷ m .rot .z .y ∷ m .rot .z .z
     ∷ m .shift .x ∷ m .shift .y ∷ m .shift .z ∷ []
 
 abbrev pub ofBounds : Bounds → List Float
 ofBounds b = b .low .x ∷ b .low .y ∷ b .low .z ∷ b .high .x ∷ b .high .y ∷ b .high .z ∷ []
+
+-- how many numbers were written to a row; as before where that is refused
+unfoldable pub afterCount : List ℕ → Due (List Vec3) → List ℕ
+afterCount l d = cond (eqb (Rows.numberOf d) 0) (set l 0 (length (Rows.partOf d))) l

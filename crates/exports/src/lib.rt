@@ -4,4 +4,3 @@ pub mod of_arcs;
 pub mod of_motions;
 pub mod of_numbers;
 pub mod of_vectors;
-pub mod records;

@@ -7,22 +7,22 @@ ghost use Rattle.arcs.specs.Entries as Arcs;
 ghost use lib.ListN.{length};
 ghost use Rattle.arcs.specs.Inner.{innerPointsDue};
 ghost use Rattle.rows.specs.Rows as Rows;
-ghost use Rattle.exports.specs.Records.{vec2, vec3, arc, bounds, profileArc, numberOf, after1, after3, after6, after7, afterCount};
-use crate::records::arc_of;
-use crate::records::store_arc;
-use crate::records::store_bounds;
-use crate::records::store_number;
-use crate::records::store_vector;
-use crate::records::vec2_of;
-use crate::records::vec3_of;
-use boxes::Bounds;
+ghost use Rattle.records.specs.Records.{vec2, vec3, alone, ofVec3, numberOf, after};
+ghost use Rattle.arc_records.specs.Records.{arc, profileArc, bounds, ofArc, ofBounds, afterCount};
+use arc_records::arc_of;
+use arc_records::bounds_of;
+use arc_records::store_arc;
+use arc_records::store_bounds;
 use profiles::ProfileArc;
-use vectors::Vec3;
+use records::store_number;
+use records::store_vector;
+use records::vec2_of;
+use records::vec3_of;
 
 #[no_mangle]
 pub extern "C" fn jr_unit(v: &[f64; 3], out: &mut [f64; 3]) -> u32
     ensures number { λ r. ⌜ r ≡ numberOf (Directions.unitDue (vec3 (now (v .entry)))) ⌝ }
-    ensures out { λ _. ⌜ now (out .exit) ≡ after3 (now (out .entry)) (Directions.unitDue (vec3 (now (v .entry)))) ⌝ }
+    ensures out { λ _. ⌜ now (out .exit) ≡ after ofVec3 (now (out .entry)) (Directions.unitDue (vec3 (now (v .entry)))) ⌝ }
 {
     let u = vec3_of(v);
     store_vector(directions::unit(u), out)
@@ -37,7 +37,7 @@ pub extern "C" fn jr_turn(
     out: &mut [f64; 1],
 ) -> u32
     ensures number { λ r. ⌜ r ≡ numberOf (Profiles.turnDue (profileArc (now (center .entry)) ccw) (vec2 (now (a .entry))) (vec2 (now (b .entry)))) ⌝ }
-    ensures out { λ _. ⌜ now (out .exit) ≡ after1 (now (out .entry)) (Profiles.turnDue (profileArc (now (center .entry)) ccw) (vec2 (now (a .entry))) (vec2 (now (b .entry)))) ⌝ }
+    ensures out { λ _. ⌜ now (out .exit) ≡ after alone (now (out .entry)) (Profiles.turnDue (profileArc (now (center .entry)) ccw) (vec2 (now (a .entry))) (vec2 (now (b .entry)))) ⌝ }
 {
     let c = vec2_of(center);
     let p = vec2_of(a);
@@ -52,7 +52,7 @@ pub extern "C" fn jr_turn(
 #[no_mangle]
 pub extern "C" fn jr_reversed(a: &[f64; 7], out: &mut [f64; 7]) -> u32
     ensures number { λ r. ⌜ r ≡ numberOf (Arcs.reversedDue (arc (now (a .entry)))) ⌝ }
-    ensures out { λ _. ⌜ now (out .exit) ≡ after7 (now (out .entry)) (Arcs.reversedDue (arc (now (a .entry)))) ⌝ }
+    ensures out { λ _. ⌜ now (out .exit) ≡ after ofArc (now (out .entry)) (Arcs.reversedDue (arc (now (a .entry)))) ⌝ }
 {
     let c = arc_of(a);
     store_arc(c.reversed(), out)
@@ -61,7 +61,7 @@ pub extern "C" fn jr_reversed(a: &[f64; 7], out: &mut [f64; 7]) -> u32
 #[no_mangle]
 pub extern "C" fn jr_sweep(a: &[f64; 7], from: &[f64; 3], to: &[f64; 3], out: &mut [f64; 1]) -> u32
     ensures number { λ r. ⌜ r ≡ numberOf (Arcs.sweepDue (arc (now (a .entry))) (vec3 (now (from .entry))) (vec3 (now (to .entry)))) ⌝ }
-    ensures out { λ _. ⌜ now (out .exit) ≡ after1 (now (out .entry)) (Arcs.sweepDue (arc (now (a .entry))) (vec3 (now (from .entry))) (vec3 (now (to .entry)))) ⌝ }
+    ensures out { λ _. ⌜ now (out .exit) ≡ after alone (now (out .entry)) (Arcs.sweepDue (arc (now (a .entry))) (vec3 (now (from .entry))) (vec3 (now (to .entry)))) ⌝ }
 {
     let c = arc_of(a);
     let u = vec3_of(from);
@@ -72,7 +72,7 @@ pub extern "C" fn jr_sweep(a: &[f64; 7], from: &[f64; 3], to: &[f64; 3], out: &m
 #[no_mangle]
 pub extern "C" fn jr_at(a: &[f64; 7], from: &[f64; 3], t: f64, out: &mut [f64; 3]) -> u32
     ensures number { λ r. ⌜ r ≡ numberOf (Arcs.atDue (arc (now (a .entry))) (vec3 (now (from .entry))) t) ⌝ }
-    ensures out { λ _. ⌜ now (out .exit) ≡ after3 (now (out .entry)) (Arcs.atDue (arc (now (a .entry))) (vec3 (now (from .entry))) t) ⌝ }
+    ensures out { λ _. ⌜ now (out .exit) ≡ after ofVec3 (now (out .entry)) (Arcs.atDue (arc (now (a .entry))) (vec3 (now (from .entry))) t) ⌝ }
 {
     let c = arc_of(a);
     let u = vec3_of(from);
@@ -87,30 +87,19 @@ pub extern "C" fn jr_extend_bounds(
     b: &mut [f64; 6],
 ) -> u32
     ensures number { λ r. ⌜ r ≡ numberOf (Arcs.extendDue (arc (now (a .entry))) (vec3 (now (from .entry))) (vec3 (now (to .entry))) (bounds (now (b .entry)))) ⌝ }
-    ensures corners { λ _. ⌜ now (b .exit) ≡ after6 (now (b .entry)) (Arcs.extendDue (arc (now (a .entry))) (vec3 (now (from .entry))) (vec3 (now (to .entry))) (bounds (now (b .entry)))) ⌝ }
+    ensures corners { λ _. ⌜ now (b .exit) ≡ after ofBounds (now (b .entry)) (Arcs.extendDue (arc (now (a .entry))) (vec3 (now (from .entry))) (vec3 (now (to .entry))) (bounds (now (b .entry)))) ⌝ }
 {
     let c = arc_of(a);
     let u = vec3_of(from);
     let v = vec3_of(to);
-    let old = Bounds {
-        low: Vec3 {
-            x: b[0],
-            y: b[1],
-            z: b[2],
-        },
-        high: Vec3 {
-            x: b[3],
-            y: b[4],
-            z: b[5],
-        },
-    };
+    let old = bounds_of(b);
     store_bounds(c.extended(u, v, old), b)
 }
 
 #[no_mangle]
 pub extern "C" fn jr_per_turn(radius: f64, chord: f64, out: &mut [f64; 1]) -> u32
     ensures number { λ r. ⌜ r ≡ numberOf (Chords.perTurnDue radius chord) ⌝ }
-    ensures out { λ _. ⌜ now (out .exit) ≡ after1 (now (out .entry)) (Chords.perTurnDue radius chord) ⌝ }
+    ensures out { λ _. ⌜ now (out .exit) ≡ after alone (now (out .entry)) (Chords.perTurnDue radius chord) ⌝ }
 {
     store_number(chords::per_turn(radius, chord), out)
 }

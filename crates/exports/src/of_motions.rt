@@ -1,17 +1,18 @@
 // Motions.
 ghost use mathlib.Core.Path.{_≡_};
 ghost use Rattle.motions.specs.Motions as Motions;
-ghost use Rattle.exports.specs.Records.{vec3, rigid, numberOf, after3, after12};
-use crate::records::rigid_of;
-use crate::records::store_motion;
-use crate::records::store_vector;
-use crate::records::vec3_of;
+ghost use Rattle.records.specs.Records.{vec3, ofVec3, numberOf, after};
+ghost use Rattle.arc_records.specs.Records.{rigid, ofRigid};
+use arc_records::rigid_of;
+use arc_records::store_motion;
 use motions::Rigid;
+use records::store_vector;
+use records::vec3_of;
 
 #[no_mangle]
 pub extern "C" fn jr_rotation(axis: &[f64; 3], angle: f64, out: &mut [f64; 12]) -> u32
     ensures number { λ r. ⌜ r ≡ numberOf (Motions.rotationDue (vec3 (now (axis .entry))) angle) ⌝ }
-    ensures out { λ _. ⌜ now (out .exit) ≡ after12 (now (out .entry)) (Motions.rotationDue (vec3 (now (axis .entry))) angle) ⌝ }
+    ensures out { λ _. ⌜ now (out .exit) ≡ after ofRigid (now (out .entry)) (Motions.rotationDue (vec3 (now (axis .entry))) angle) ⌝ }
 {
     let a = vec3_of(axis);
     store_motion(Rigid::rotation(a, angle), out)
@@ -26,7 +27,7 @@ pub extern "C" fn jr_frame(
     out: &mut [f64; 12],
 ) -> u32
     ensures number { λ r. ⌜ r ≡ numberOf (Motions.frameDue (vec3 (now (origin .entry))) (vec3 (now (x .entry))) (vec3 (now (y .entry))) (vec3 (now (z .entry)))) ⌝ }
-    ensures out { λ _. ⌜ now (out .exit) ≡ after12 (now (out .entry)) (Motions.frameDue (vec3 (now (origin .entry))) (vec3 (now (x .entry))) (vec3 (now (y .entry))) (vec3 (now (z .entry)))) ⌝ }
+    ensures out { λ _. ⌜ now (out .exit) ≡ after ofRigid (now (out .entry)) (Motions.frameDue (vec3 (now (origin .entry))) (vec3 (now (x .entry))) (vec3 (now (y .entry))) (vec3 (now (z .entry)))) ⌝ }
 {
     let o = vec3_of(origin);
     let a = vec3_of(x);
@@ -38,7 +39,7 @@ pub extern "C" fn jr_frame(
 #[no_mangle]
 pub extern "C" fn jr_apply(m: &[f64; 12], p: &[f64; 3], out: &mut [f64; 3]) -> u32
     ensures number { λ r. ⌜ r ≡ numberOf (Motions.applyDue (rigid (now (m .entry))) (vec3 (now (p .entry)))) ⌝ }
-    ensures out { λ _. ⌜ now (out .exit) ≡ after3 (now (out .entry)) (Motions.applyDue (rigid (now (m .entry))) (vec3 (now (p .entry)))) ⌝ }
+    ensures out { λ _. ⌜ now (out .exit) ≡ after ofVec3 (now (out .entry)) (Motions.applyDue (rigid (now (m .entry))) (vec3 (now (p .entry)))) ⌝ }
 {
     let g = rigid_of(m);
     let q = vec3_of(p);
@@ -48,7 +49,7 @@ pub extern "C" fn jr_apply(m: &[f64; 12], p: &[f64; 3], out: &mut [f64; 3]) -> u
 #[no_mangle]
 pub extern "C" fn jr_apply_vector(m: &[f64; 12], p: &[f64; 3], out: &mut [f64; 3]) -> u32
     ensures number { λ r. ⌜ r ≡ numberOf (Motions.applyVectorDue (rigid (now (m .entry))) (vec3 (now (p .entry)))) ⌝ }
-    ensures out { λ _. ⌜ now (out .exit) ≡ after3 (now (out .entry)) (Motions.applyVectorDue (rigid (now (m .entry))) (vec3 (now (p .entry)))) ⌝ }
+    ensures out { λ _. ⌜ now (out .exit) ≡ after ofVec3 (now (out .entry)) (Motions.applyVectorDue (rigid (now (m .entry))) (vec3 (now (p .entry)))) ⌝ }
 {
     let g = rigid_of(m);
     let q = vec3_of(p);

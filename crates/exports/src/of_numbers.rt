@@ -7,9 +7,9 @@ ghost use Rattle.rounding.specs.Whole as Whole;
 ghost use Rattle.arctangent.specs.Arctangent as Arctangent;
 ghost use Rattle.circle.specs.Circle as Circle;
 ghost use Rattle.roots.specs.Roots as Roots;
-ghost use Rattle.exports.specs.Records.{numberOf, after1, after2};
-use crate::records::store_number;
-use crate::records::store_sines;
+ghost use Rattle.records.specs.Records.{alone, ofSines, numberOf, after};
+use records::store_number;
+use records::store_sines;
 
 #[no_mangle]
 pub extern "C" fn jr_sqrt(x: f64) -> f64
@@ -56,7 +56,7 @@ pub extern "C" fn jr_hypot(x: f64, y: f64) -> f64
 #[no_mangle]
 pub extern "C" fn jr_sin(x: f64, out: &mut [f64; 1]) -> u32
     ensures number { λ r. ⌜ r ≡ numberOf (answered (Circle.sinC x)) ⌝ }
-    ensures out { λ _. ⌜ now (out .exit) ≡ after1 (now (out .entry)) (answered (Circle.sinC x)) ⌝ }
+    ensures out { λ _. ⌜ now (out .exit) ≡ after alone (now (out .entry)) (answered (Circle.sinC x)) ⌝ }
 {
     store_number(checked::settle(circle::sin(x)), out)
 }
@@ -64,7 +64,7 @@ pub extern "C" fn jr_sin(x: f64, out: &mut [f64; 1]) -> u32
 #[no_mangle]
 pub extern "C" fn jr_sincos(x: f64, out: &mut [f64; 2]) -> u32
     ensures number { λ r. ⌜ r ≡ numberOf (answered (Circle.sincosC x)) ⌝ }
-    ensures out { λ _. ⌜ now (out .exit) ≡ after2 (now (out .entry)) (answered (Circle.sincosC x)) ⌝ }
+    ensures out { λ _. ⌜ now (out .exit) ≡ after ofSines (now (out .entry)) (answered (Circle.sincosC x)) ⌝ }
 {
     store_sines(circle::sincos(x), out)
 }

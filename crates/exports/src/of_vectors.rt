@@ -1,16 +1,16 @@
 // Vectors.
 ghost use mathlib.Core.Path.{_≡_};
 ghost use Rattle.vectors.specs.Entries as Vectors;
-ghost use Rattle.exports.specs.Records.{vec3, numberOf, after1, after3, afterIndex};
-use crate::records::store_index;
-use crate::records::store_number;
-use crate::records::store_vector;
-use crate::records::vec3_of;
+ghost use Rattle.records.specs.Records.{vec3, alone, ofVec3, numberOf, after};
+use records::store_index;
+use records::store_number;
+use records::store_vector;
+use records::vec3_of;
 
 #[no_mangle]
 pub extern "C" fn jr_dot(a: &[f64; 3], b: &[f64; 3], out: &mut [f64; 1]) -> u32
     ensures number { λ r. ⌜ r ≡ numberOf (Vectors.dotDue (vec3 (now (a .entry))) (vec3 (now (b .entry)))) ⌝ }
-    ensures out { λ _. ⌜ now (out .exit) ≡ after1 (now (out .entry)) (Vectors.dotDue (vec3 (now (a .entry))) (vec3 (now (b .entry)))) ⌝ }
+    ensures out { λ _. ⌜ now (out .exit) ≡ after alone (now (out .entry)) (Vectors.dotDue (vec3 (now (a .entry))) (vec3 (now (b .entry)))) ⌝ }
 {
     let u = vec3_of(a);
     let v = vec3_of(b);
@@ -20,7 +20,7 @@ pub extern "C" fn jr_dot(a: &[f64; 3], b: &[f64; 3], out: &mut [f64; 1]) -> u32
 #[no_mangle]
 pub extern "C" fn jr_cross(a: &[f64; 3], b: &[f64; 3], out: &mut [f64; 3]) -> u32
     ensures number { λ r. ⌜ r ≡ numberOf (Vectors.crossDue (vec3 (now (a .entry))) (vec3 (now (b .entry)))) ⌝ }
-    ensures out { λ _. ⌜ now (out .exit) ≡ after3 (now (out .entry)) (Vectors.crossDue (vec3 (now (a .entry))) (vec3 (now (b .entry)))) ⌝ }
+    ensures out { λ _. ⌜ now (out .exit) ≡ after ofVec3 (now (out .entry)) (Vectors.crossDue (vec3 (now (a .entry))) (vec3 (now (b .entry)))) ⌝ }
 {
     let u = vec3_of(a);
     let v = vec3_of(b);
@@ -30,7 +30,7 @@ pub extern "C" fn jr_cross(a: &[f64; 3], b: &[f64; 3], out: &mut [f64; 3]) -> u3
 #[no_mangle]
 pub extern "C" fn jr_sum(a: &[f64; 3], b: &[f64; 3], out: &mut [f64; 3]) -> u32
     ensures number { λ r. ⌜ r ≡ numberOf (Vectors.sumDue (vec3 (now (a .entry))) (vec3 (now (b .entry)))) ⌝ }
-    ensures out { λ _. ⌜ now (out .exit) ≡ after3 (now (out .entry)) (Vectors.sumDue (vec3 (now (a .entry))) (vec3 (now (b .entry)))) ⌝ }
+    ensures out { λ _. ⌜ now (out .exit) ≡ after ofVec3 (now (out .entry)) (Vectors.sumDue (vec3 (now (a .entry))) (vec3 (now (b .entry)))) ⌝ }
 {
     let u = vec3_of(a);
     let v = vec3_of(b);
@@ -40,7 +40,7 @@ pub extern "C" fn jr_sum(a: &[f64; 3], b: &[f64; 3], out: &mut [f64; 3]) -> u32
 #[no_mangle]
 pub extern "C" fn jr_difference(a: &[f64; 3], b: &[f64; 3], out: &mut [f64; 3]) -> u32
     ensures number { λ r. ⌜ r ≡ numberOf (Vectors.differenceDue (vec3 (now (a .entry))) (vec3 (now (b .entry)))) ⌝ }
-    ensures out { λ _. ⌜ now (out .exit) ≡ after3 (now (out .entry)) (Vectors.differenceDue (vec3 (now (a .entry))) (vec3 (now (b .entry)))) ⌝ }
+    ensures out { λ _. ⌜ now (out .exit) ≡ after ofVec3 (now (out .entry)) (Vectors.differenceDue (vec3 (now (a .entry))) (vec3 (now (b .entry)))) ⌝ }
 {
     let u = vec3_of(a);
     let v = vec3_of(b);
@@ -50,7 +50,7 @@ pub extern "C" fn jr_difference(a: &[f64; 3], b: &[f64; 3], out: &mut [f64; 3]) 
 #[no_mangle]
 pub extern "C" fn jr_negation(a: &[f64; 3], out: &mut [f64; 3]) -> u32
     ensures number { λ r. ⌜ r ≡ numberOf (Vectors.negationDue (vec3 (now (a .entry)))) ⌝ }
-    ensures out { λ _. ⌜ now (out .exit) ≡ after3 (now (out .entry)) (Vectors.negationDue (vec3 (now (a .entry)))) ⌝ }
+    ensures out { λ _. ⌜ now (out .exit) ≡ after ofVec3 (now (out .entry)) (Vectors.negationDue (vec3 (now (a .entry)))) ⌝ }
 {
     let u = vec3_of(a);
     store_vector(u.negation(), out)
@@ -59,7 +59,7 @@ pub extern "C" fn jr_negation(a: &[f64; 3], out: &mut [f64; 3]) -> u32
 #[no_mangle]
 pub extern "C" fn jr_times(a: &[f64; 3], k: f64, out: &mut [f64; 3]) -> u32
     ensures number { λ r. ⌜ r ≡ numberOf (Vectors.timesDue (vec3 (now (a .entry))) k) ⌝ }
-    ensures out { λ _. ⌜ now (out .exit) ≡ after3 (now (out .entry)) (Vectors.timesDue (vec3 (now (a .entry))) k) ⌝ }
+    ensures out { λ _. ⌜ now (out .exit) ≡ after ofVec3 (now (out .entry)) (Vectors.timesDue (vec3 (now (a .entry))) k) ⌝ }
 {
     let u = vec3_of(a);
     store_vector(u.times(k), out)
@@ -68,7 +68,7 @@ pub extern "C" fn jr_times(a: &[f64; 3], k: f64, out: &mut [f64; 3]) -> u32
 #[no_mangle]
 pub extern "C" fn jr_dominant_axis(a: &[f64; 3], out: &mut [u64; 1]) -> u32
     ensures number { λ r. ⌜ r ≡ numberOf (Vectors.dominantAxisDue (vec3 (now (a .entry)))) ⌝ }
-    ensures out { λ _. ⌜ now (out .exit) ≡ afterIndex (now (out .entry)) (Vectors.dominantAxisDue (vec3 (now (a .entry)))) ⌝ }
+    ensures out { λ _. ⌜ now (out .exit) ≡ after alone (now (out .entry)) (Vectors.dominantAxisDue (vec3 (now (a .entry)))) ⌝ }
 {
     let u = vec3_of(a);
     store_index(u.dominant_axis(), out)

@@ -6,7 +6,7 @@ use borrow.Author.Tests.{eq-eqb, ne-eqb}
 use Rattle.checked.specs.Checked.{Due}
 use Rattle.vectors.specs.declared.Vec3.{Vec3}
 use Rattle.rows.specs.Rows.{numberOf, partOf}
-use Rattle.exports.specs.Records.{afterCount}
+use Rattle.arc_records.specs.Records.{afterCount}
 use borrow.Author.Needs.{needs}
 use Rattle.exports.proofs.of_arcs.jr_inner_points.Statement.{statement}
 use Rattle.exports.proofs.of_arcs.jr_inner_points.Tie as tie

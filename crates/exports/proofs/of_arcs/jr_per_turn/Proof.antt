@@ -9,7 +9,7 @@ store-number-requires : tie.Need-store-number-requires
 store-number-requires c κs = search needs
 
 returns : tie.Need-returns
-returns c = (simp (c .store-number .ensures .0, c .before .before .per-turn .ensures), simp (c .store-number .ensures .1, c .before .before .per-turn .ensures))
+returns c = simp (c .before .before .per-turn .ensures) at (c .store-number .ensures)
 
 pub jr-per-turn-spec : {M : Type 1} → statement M
 jr-per-turn-spec = tie.close (tie.spec per-turn-requires store-number-requires returns)

@@ -12,7 +12,7 @@ store-arc-requires : tie.Need-store-arc-requires
 store-arc-requires c κs = search needs
 
 returns : tie.Need-returns
-returns c = (simp (c .store-arc .ensures .0, c .before .before .reversed .ensures, c .before .before .before .arc-of .ensures), simp (c .store-arc .ensures .1, c .before .before .reversed .ensures, c .before .before .before .arc-of .ensures))
+returns c = simp (c .before .before .reversed .ensures, c .before .before .before .arc-of .ensures) at (c .store-arc .ensures)
 
 pub jr-reversed-spec : {M : Type 1} → statement M
 jr-reversed-spec =

@@ -12,7 +12,7 @@ store-motion-requires : tie.Need-store-motion-requires
 store-motion-requires c κs = search needs
 
 returns : tie.Need-returns
-returns c = (simp (c .store-motion .ensures .0, c .before .before .rotation .ensures, c .before .before .before .vec3-of .ensures), simp (c .store-motion .ensures .1, c .before .before .rotation .ensures, c .before .before .before .vec3-of .ensures))
+returns c = simp (c .before .before .rotation .ensures, c .before .before .before .vec3-of .ensures) at (c .store-motion .ensures)
 
 pub jr-rotation-spec : {M : Type 1} → statement M
 jr-rotation-spec =

@@ -12,7 +12,7 @@ store-number-requires : tie.Need-store-number-requires
 store-number-requires c κs = search needs
 
 returns : tie.Need-returns
-returns c = (simp (c .store-number .ensures .0, c .before .before .settle .ensures, c .before .before .before .sin .ensures .0, c .before .before .before .sin .ensures .1), simp (c .store-number .ensures .1, c .before .before .settle .ensures, c .before .before .before .sin .ensures .0, c .before .before .before .sin .ensures .1))
+returns c = simp (c .before .before .settle .ensures, c .before .before .before .sin .ensures .0, c .before .before .before .sin .ensures .1) at (c .store-number .ensures)
 
 pub jr-sin-spec : {M : Type 1} → statement M
 jr-sin-spec = tie.close (tie.spec sin-requires settle-requires store-number-requires returns)

@@ -12,7 +12,7 @@ store-index-requires : tie.Need-store-index-requires
 store-index-requires c κs = search needs
 
 returns : tie.Need-returns
-returns c = (simp (c .store-index .ensures .0, c .before .before .dominant-axis .ensures, c .before .before .before .vec3-of .ensures), simp (c .store-index .ensures .1, c .before .before .dominant-axis .ensures, c .before .before .before .vec3-of .ensures))
+returns c = simp (c .before .before .dominant-axis .ensures, c .before .before .before .vec3-of .ensures) at (c .store-index .ensures)
 
 pub jr-dominant-axis-spec : {M : Type 1} → statement M
 jr-dominant-axis-spec =

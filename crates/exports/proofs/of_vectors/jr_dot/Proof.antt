@@ -15,7 +15,7 @@ store-number-requires : tie.Need-store-number-requires
 store-number-requires c κs = search needs
 
 returns : tie.Need-returns
-returns c = (simp (c .store-number .ensures .0, c .before .before .dot .ensures, c .before .before .before .vec3-of2 .ensures, c .before .before .before .before .vec3-of .ensures), simp (c .store-number .ensures .1, c .before .before .dot .ensures, c .before .before .before .vec3-of2 .ensures, c .before .before .before .before .vec3-of .ensures))
+returns c = simp (c .before .before .dot .ensures, c .before .before .before .vec3-of2 .ensures, c .before .before .before .before .vec3-of .ensures) at (c .store-number .ensures)
 
 pub jr-dot-spec : {M : Type 1} → statement M
 jr-dot-spec =
