@@ -12,7 +12,7 @@ use Rattle.edge_lines.specs.Lines.{emptyLine, refusedLine, boxLine}
 use Rattle.edge_records.specs.declared.Edge.{Edge}
 use Rattle.edge_records.specs.declared.Record.{Record}
 use Rattle.edge_records.specs.declared.Record.the-variants as first
-use Rattle.edge_records.specs.Records.{recordOf}
+use Rattle.edge_records.specs.Records.{recordOf, sizeOf}
 use Rattle.edge_file.specs.declared.Seen.{Seen}
 
 -- an edge's box call
@@ -42,16 +42,16 @@ abbrev pub called : (Seen → List ℕ) → ℕ → Due Bounds → List ℕ
 called on k (due b) = on (record { «has_edge» = true; bounds = b })
 called on k (refused n) = refusedLine n k
 
--- the line of a file whose first record is record k, where `on` reads on after that record
+-- the line of a file whose first record is record k, where `on` reads the bytes after that record
 abbrev pub byRecord : (Seen → ℕ → List ℕ → List ℕ) → Seen → ℕ → List ℕ → Record → List ℕ
-byRecord on seen k file (first.Arc e) = called (λ s. on s (next k) (drop 107 file)) k (callOf e (seen .bounds))
-byRecord on seen k file first.End = ended seen k (drop 3 file)
-byRecord on seen k file first.Malformed = refusedLine MALFORMED-FILE k
+byRecord on seen k after (first.Edge e) = called (λ s. on s (next k) after) k (callOf e (seen .bounds))
+byRecord on seen k after first.End = ended seen k after
+byRecord on seen k after first.Malformed = refusedLine MALFORMED-FILE k
 
 -- the line of what is left of a file from record k on, of which there are at most n records more
 unfoldable pub lineFrom : ℕ → Seen → ℕ → List ℕ → List ℕ
 lineFrom zero seen k file = refusedLine MALFORMED-FILE k
-lineFrom (suc n) seen k file = byRecord (lineFrom n) seen k file (recordOf file)
+lineFrom (suc n) seen k file = byRecord (lineFrom n) seen k (drop (sizeOf file) file) (recordOf file)
 
 -- the line of a file, which has no more records than bytes
 unfoldable pub lineOf : List ℕ → List ℕ

@@ -10,7 +10,7 @@ use Rattle.boxes.specs.declared.Bounds.{Bounds}
 use Rattle.edge_lines.specs.Lines.{refusedLine}
 use Rattle.edge_records.specs.declared.Record.{Record}
 use Rattle.edge_records.specs.declared.Record.the-variants as first
-use Rattle.edge_records.specs.Records.{recordOf, sizeOf}
+use Rattle.edge_records.specs.Records.{recordOf, sizeOf, shortest, longest}
 use Rattle.edge_file.specs.declared.Seen.{Seen}
 use Rattle.edge_file.specs.declared.Status.{Status}
 use Rattle.edge_file.specs.declared.Status.the-variants as status
@@ -41,7 +41,7 @@ calledOn r (refused n) = stopped r n (r .number)
 
 -- after a record
 abbrev pub recordOn : Reading → Record → Reading
-recordOn r (first.Arc e) = calledOn r (callOf e (r .seen .bounds))
+recordOn r (first.Edge e) = calledOn r (callOf e (r .seen .bounds))
 recordOn r first.End = record { seen = r .seen; number = r .number; status = status.Ended }
 recordOn r first.Malformed = stopped r MALFORMED-FILE (r .number)
 
@@ -73,9 +73,11 @@ unfoldable pub isRefused : Reading → Bool
 isRefused r = refusedBy (r .status)
 
 -- Some bytes are read, and `used` of them are taken: whatever follows, the line stays the same; and if nothing follows, the bytes that are not taken do
--- not count, since no record stands whole in them.
+-- not count, since no record stands whole in them. Fewer are left than the longest record has; and of no more than the shortest record of an edge has, either
+-- all are taken or none.
 pub record Fed (r : Reading) (bytes : List ℕ) (r' : Reading) (used : ℕ) : Type 0 where
   pub on : (rest : List ℕ) → lineOn r' (drop used bytes ++ rest) ≡ lineOn r (bytes ++ rest)
   pub over : lineOn r' (drop used bytes) ≡ lineOn r' []
   pub within : used ≤ length bytes
-  pub little : length bytes < used + 107
+  pub little : length bytes < used + longest
+  pub whole : length bytes ≤ shortest → 0 < used → used ≡ length bytes

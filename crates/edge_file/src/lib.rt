@@ -95,7 +95,7 @@ impl Reading {
     {
         let seen = self.seen;
         match edge_records::record_of(bytes) {
-            Record::Arc(e) => self.edge(e),
+            Record::Edge(e) => self.edge(e),
             Record::End => Reading {
                 seen,
                 number: self.number,

@@ -5,8 +5,9 @@ use Prim.Native.Nat.{ℕ, suc, _+_, _-_, _*_, _≤_, _<_}
 use native.Mathlib.Omega.{arith}
 use lib.ListN.{length, take, drop, getD, length-drop}
 use lib.Seq.{drop-cons, take-all}
-use borrow.Author.Tests.{lt-ltb, le-ltb}
-use Rattle.edge_records.specs.Records.{lowFirst, headOf, cut, kindOf}
+use borrow.Author.Tests.{lt-ltb, le-ltb, eq-eqb, ne-eqb}
+use Rattle.edge_records.specs.Records.{lowFirst, tagged, lengthOf, headOf, kindOf, sizeOfKind}
+use Rattle.edge_records.specs.Laws.{tagged-size, head-size}
 use Rattle.edge_records.specs.declared.Kind.{Kind}
 use Rattle.edge_records.specs.declared.Kind.the-variants as kind
 
@@ -27,9 +28,18 @@ eight i s h =
     ∙ ap (λ (l : List ℕ). getD s (i + 6) 0 ∷ l) (next 0 (i + 7) (i + 8) s (omega arith) (omega arith)))))))))
 
 -- ---- heads
-pub size-is : (low high : ℕ) → low + 256 * high ≡ lowFirst (low ∷ high ∷ [])
+pub length-is : (low high : ℕ) → low + 256 * high ≡ lowFirst (low ∷ high ∷ [])
 unfolding lowFirst
-size-is low high = omega arith
+length-is low high = omega arith
+
+-- the length that a head announces is its tag's, or not
+pub right-length : (tag size : ℕ) → 3 + size ≡ sizeOfKind (tagged tag) → tagged tag ≡ headOf tag size
+unfolding headOf
+right-length tag size e = sym (simp (eq-eqb size (lengthOf (tagged tag)) (omega (arith, tagged-size tag))))
+
+pub other-length : (tag size : ℕ) → (3 + size ≡ sizeOfKind (tagged tag) → ⊥) → kind.Unknown ≡ headOf tag size
+unfolding headOf
+other-length tag size n = sym (simp (ne-eqb size (lengthOf (tagged tag)) (λ e. n (omega (arith, tagged-size tag)))))
 
 abbrev headAt : List ℕ → Kind
 headAt s = headOf (getD s 0 0) (lowFirst (getD s 1 0 ∷ getD s 2 0 ∷ []))
@@ -41,19 +51,19 @@ short-head (t ∷ []) h = refl
 short-head (t ∷ a ∷ []) h = refl
 short-head (t ∷ a ∷ b ∷ body) h = absurd (omega arith)
 
-pub short-body : (s : List ℕ) → 3 ≤ length s → length s < 107 → cut (headAt s) ≡ kindOf s
+pub short-body : (s : List ℕ) → 3 ≤ length s → length s < sizeOfKind (headAt s) → kind.Short ≡ kindOf s
 unfolding kindOf
 short-body [] h l = absurd (omega arith)
 short-body (t ∷ []) h l = absurd (omega arith)
 short-body (t ∷ a ∷ []) h l = absurd (omega arith)
-short-body (t ∷ a ∷ b ∷ body) h l = sym (simp (lt-ltb (length body) 104 (omega arith)))
+short-body (t ∷ a ∷ b ∷ body) h l = sym (simp (lt-ltb (length body) (lengthOf (headOf t (lowFirst (a ∷ b ∷ [])))) (omega (arith, head-size t (lowFirst (a ∷ b ∷ []))))))
 
-pub whole-body : (s : List ℕ) → 107 ≤ length s → headAt s ≡ kindOf s
+pub whole-body : (s : List ℕ) → 3 ≤ length s → sizeOfKind (headAt s) ≤ length s → headAt s ≡ kindOf s
 unfolding kindOf
-whole-body [] h = absurd (omega arith)
-whole-body (t ∷ []) h = absurd (omega arith)
-whole-body (t ∷ a ∷ []) h = absurd (omega arith)
-whole-body (t ∷ a ∷ b ∷ body) h = sym (simp (le-ltb (length body) 104 (omega arith)))
+whole-body [] h l = absurd (omega arith)
+whole-body (t ∷ []) h l = absurd (omega arith)
+whole-body (t ∷ a ∷ []) h l = absurd (omega arith)
+whole-body (t ∷ a ∷ b ∷ body) h l = sym (simp (le-ltb (length body) (lengthOf (headOf t (lowFirst (a ∷ b ∷ [])))) (omega (arith, head-size t (lowFirst (a ∷ b ∷ []))))))
 
 -- what follows the head, as a part that reaches to the end
 pub after-head : (s : List ℕ) → take (length s - 3) (drop 3 s) ≡ drop 3 s

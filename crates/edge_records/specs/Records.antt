@@ -28,23 +28,27 @@ unfoldable pub pointAt : ℕ → List ℕ → Vec3
 pointAt i bytes = space (numberAt i bytes) (numberAt (i + 8) bytes) (numberAt (i + 16) bytes)
 
 -- ---- records
--- tag 1, length 104: an arc with its ends; tag 127, length 0: the end
+-- tag 1: an arc with its ends; tag 127: the end
+unfoldable pub tagged : ℕ → Kind
+tagged tag = cond (eqb tag 1) kind.Arc (cond (eqb tag 127) kind.End kind.Unknown)
+
+-- the length that a record of a kind announces: the bytes after its head
+abbrev pub lengthOf : Kind → ℕ
+lengthOf kind.Arc = 104
+lengthOf kind.End = 0
+lengthOf kind.Unknown = 0
+lengthOf kind.Short = 0
+
+-- what a head announces; nothing known where the length is not the tag's
 unfoldable pub headOf : ℕ → ℕ → Kind
-headOf tag size = cond (eqb tag 1 && eqb size 104) kind.Arc (cond (eqb tag 127 && eqb size 0) kind.End kind.Unknown)
+headOf tag size = let k = tagged tag in cond (eqb size (lengthOf k)) k kind.Unknown
 
--- what a head announces, where what follows it is not as long as an arc's body
-unfoldable pub cut : Kind → Kind
-cut kind.Arc = kind.Short
-cut kind.End = kind.End
-cut kind.Unknown = kind.Unknown
-cut kind.Short = kind.Short
-
--- what the first record of a file is, by its head and by what is there of it
+-- what the first record of a file is, by its head; short where the head, or what it announces, is not all there
 unfoldable pub kindOf : List ℕ → Kind
 kindOf [] = kind.Short
 kindOf (t ∷ []) = kind.Short
 kindOf (t ∷ a ∷ []) = kind.Short
-kindOf (t ∷ a ∷ b ∷ body) = let head = headOf t (lowFirst (a ∷ b ∷ [])) in cond (ltb (length body) 104) (cut head) head
+kindOf (t ∷ a ∷ b ∷ body) = let k = headOf t (lowFirst (a ∷ b ∷ [])) in cond (ltb (length body) (lengthOf k)) kind.Short k
 
 -- the bytes after the head of an arc's record: centre, axis, radius, first end, second end
 unfoldable pub edgeOf : List ℕ → Edge
@@ -56,7 +60,7 @@ edgeOf body = record {
 
 -- the first record of a file; malformed where its tag or its length is not known, and where it is cut short
 abbrev pub ofKind : Kind → List ℕ → Record
-ofKind kind.Arc body = first.Arc (edgeOf body)
+ofKind kind.Arc body = first.Edge (edgeOf body)
 ofKind kind.End body = first.End
 ofKind kind.Unknown body = first.Malformed
 ofKind kind.Short body = first.Malformed
@@ -65,12 +69,20 @@ unfoldable pub recordOf : List ℕ → Record
 recordOf file = ofKind (kindOf file) (drop 3 file)
 
 -- ---- how a file is cut into records
--- the bytes that the first record takes, and 0 where it is cut short; an unknown head is taken by itself
+-- the bytes of a record of a kind: its head and what follows it; an unknown head is taken by itself, and nothing of a record that is cut short
 abbrev pub sizeOfKind : Kind → ℕ
-sizeOfKind kind.Arc = 107
+sizeOfKind kind.Arc = 3 + lengthOf kind.Arc
 sizeOfKind kind.End = 3
 sizeOfKind kind.Unknown = 3
 sizeOfKind kind.Short = 0
 
+-- the bytes that the first record of a file takes
 unfoldable pub sizeOf : List ℕ → ℕ
 sizeOf file = sizeOfKind (kindOf file)
+
+-- the bytes of the shortest and of the longest record of an edge
+abbrev pub shortest : ℕ
+shortest = sizeOfKind kind.Arc
+
+abbrev pub longest : ℕ
+longest = sizeOfKind kind.Arc

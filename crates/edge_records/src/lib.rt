@@ -3,7 +3,7 @@ ghost use mathlib.Core.Path.{_≡_};
 ghost use mathlib.Core.List.{[], _∷_};
 ghost use Prim.Native.Nat.{_+_, _*_, _≤_};
 ghost use lib.ListN.{length};
-ghost use Rattle.edge_records.specs.Records.{lowFirst, numberAt, pointAt, headOf, cut, kindOf, edgeOf, recordOf, sizeOf};
+ghost use Rattle.edge_records.specs.Records.{lowFirst, numberAt, pointAt, tagged, lengthOf, headOf, kindOf, edgeOf, recordOf, sizeOfKind, sizeOf};
 use arcs::Arc;
 use checked::of_bits;
 use vectors::Vec3;
@@ -12,7 +12,7 @@ use vectors::Vec3;
 pub const HEAD: usize = 3;
 
 // The bytes of an arc's record: its head, and thirteen numbers.
-pub const ARC: usize = 107;
+pub const ARC: usize = HEAD + 104;
 
 // An arc with its two ends.
 pub struct Edge {
@@ -23,7 +23,7 @@ pub struct Edge {
 
 // What the bytes of a file begin with; malformed where no record stands whole there.
 pub enum Record {
-    Arc(Edge),
+    Edge(Edge),
     End,
     Malformed,
 }
@@ -36,14 +36,39 @@ enum Kind {
     Short,
 }
 
+impl Kind {
+    // How many bytes such a record takes.
+    fn size(self) -> usize
+        ensures { λ r. ⌜ r ≡ sizeOfKind self ⌝ }
+    {
+        match self {
+            Kind::Arc => ARC,
+            Kind::End => HEAD,
+            Kind::Unknown => HEAD,
+            Kind::Short => 0,
+        }
+    }
+}
+
+fn tagged(tag: u8) -> Kind
+    ensures { λ r. ⌜ r ≡ tagged tag ⌝ }
+{
+    if tag == 1 {
+        Kind::Arc
+    } else if tag == 127 {
+        Kind::End
+    } else {
+        Kind::Unknown
+    }
+}
+
 fn head_of(tag: u8, low: u8, high: u8) -> Kind
     ensures { λ r. ⌜ r ≡ headOf tag (lowFirst (low ∷ high ∷ [])) ⌝ }
 {
-    let size = low as u64 + 256 * (high as u64);
-    if (tag == 1) & (size == 104) {
-        Kind::Arc
-    } else if (tag == 127) & (size == 0) {
-        Kind::End
+    let kind = tagged(tag);
+    let length = low as usize + 256 * (high as usize);
+    if HEAD + length == kind.size() {
+        kind
     } else {
         Kind::Unknown
     }
@@ -56,20 +81,10 @@ fn kind_of(bytes: &[u8]) -> Kind
         return Kind::Short;
     }
     let head = head_of(bytes[0], bytes[1], bytes[2]);
-    if bytes.len() < ARC { head.cut() } else { head }
-}
-
-impl Kind {
-    // Where an arc's body is not all there.
-    fn cut(self) -> Kind
-        ensures { λ r. ⌜ r ≡ cut self ⌝ }
-    {
-        match self {
-            Kind::Arc => Kind::Short,
-            Kind::End => Kind::End,
-            Kind::Unknown => Kind::Unknown,
-            Kind::Short => Kind::Short,
-        }
+    if bytes.len() < head.size() {
+        Kind::Short
+    } else {
+        head
     }
 }
 
@@ -118,7 +133,7 @@ fn point_at(i: usize, s: &[u8]) -> Vec3
 
 // The edge whose numbers stand after the head of an arc's record.
 fn edge_of(body: &[u8]) -> Edge
-    requires { ⌜ 104 ≤ length (now body) ⌝ }
+    requires { ⌜ lengthOf Kind.Arc ≤ length (now body) ⌝ }
     ensures { λ r. ⌜ r ≡ edgeOf (now (body .entry)) ⌝ }
 {
     Edge {
@@ -137,7 +152,7 @@ pub fn record_of(bytes: &[u8]) -> Record
     ensures { λ r. ⌜ r ≡ recordOf (now (bytes .entry)) ⌝ }
 {
     match kind_of(bytes) {
-        Kind::Arc => Record::Arc(edge_of(&bytes[HEAD..])),
+        Kind::Arc => Record::Edge(edge_of(&bytes[HEAD..])),
         Kind::End => Record::End,
         Kind::Unknown => Record::Malformed,
         Kind::Short => Record::Malformed,
@@ -148,10 +163,5 @@ pub fn record_of(bytes: &[u8]) -> Record
 pub fn size_of(bytes: &[u8]) -> usize
     ensures { λ r. ⌜ r ≡ sizeOf (now (bytes .entry)) ⌝ }
 {
-    match kind_of(bytes) {
-        Kind::Arc => ARC,
-        Kind::End => HEAD,
-        Kind::Unknown => HEAD,
-        Kind::Short => 0,
-    }
+    kind_of(bytes).size()
 }

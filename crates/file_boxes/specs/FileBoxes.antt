@@ -25,7 +25,7 @@ use Rattle.edge_lines.specs.Lines.{corner, boxLine, emptyLine}
 use Rattle.edge_records.specs.declared.Edge.{Edge}
 use Rattle.edge_records.specs.declared.Record.{Record}
 use Rattle.edge_records.specs.declared.Record.the-variants as first
-use Rattle.edge_records.specs.Records.{recordOf, sizeOf}
+use Rattle.edge_records.specs.Records.{recordOf, sizeOf, shortest}
 use Rattle.edge_records.specs.Laws.{Sized, sized, size-within}
 use Rattle.edge_file.specs.declared.Seen.{Seen}
 use Rattle.edge_file.specs.EdgeFile.{nothing, next, callOf, printed, ended, called, byRecord, lineFrom, lineOf}
@@ -38,8 +38,8 @@ asCall e = ArcEdge (e .arc) (e .from) (e .to)
 
 -- a file that holds these arcs, then its end record and nothing more
 pub data FileOf : List ℕ → List Edge → Type 0 where
-  ends : {file : List ℕ} → recordOf file ≡ first.End → drop 3 file ≡ [] → FileOf file []
-  arc : {file : List ℕ} {e : Edge} {es : List Edge} → recordOf file ≡ first.Arc e → FileOf (drop 107 file) es → FileOf file (e ∷ es)
+  ends : {file : List ℕ} → recordOf file ≡ first.End → drop (sizeOf file) file ≡ [] → FileOf file []
+  arc : {file : List ℕ} {e : Edge} {es : List Edge} → recordOf file ≡ first.Edge e → FileOf (drop (sizeOf file) file) es → FileOf file (e ∷ es)
 
 -- each is accepted on the empty box
 abbrev pub NoneRefused : List Edge → Type 0
@@ -85,23 +85,23 @@ along : (n : ℕ) {file : List ℕ} {es : List Edge} → FileOf file es → (see
 unfolding lineFrom answers extendDue
 along zero f seen k h a = absurd (omega arith)
 along (suc n) {file} (ends r d) seen k h a =
-    ap (byRecord (lineFrom n) seen k file) r ∙ (unfold ended in ap (ended seen k) d)
+    ap (byRecord (lineFrom n) seen k (drop (sizeOf file) file)) r ∙ (unfold ended in ap (ended seen k) d)
 along (suc n) {file} (arc {e = e} {es = es} r f) seen k h a =
     let mine = head-of _ _ _ _ a in
     let rest = tail-of _ _ _ _ a in
-    ap (byRecord (lineFrom n) seen k file) r
-    ∙ goes-on (λ s. lineFrom n s (next k) (drop 107 file)) k (seen .bounds) (callOf e (seen .bounds)) mine
+    ap (byRecord (lineFrom n) seen k (drop (sizeOf file) file)) r
+    ∙ goes-on (λ s. lineFrom n s (next k) (drop (sizeOf file) file)) k (seen .bounds) (callOf e (seen .bounds)) mine
     ∙ along n f (record { «has_edge» = true; bounds = after (seen .bounds) (call (seen .bounds) (asCall e)) }) (next k) (omega arith) rest
 
 -- a file has more bytes than arcs
 longer : {file : List ℕ} {es : List Edge} → FileOf file es → length es < length file
 longer {file} (ends r d) = few (sizeOf file) (length file) (subst (λ (x : Record). Sized x (sizeOf file)) r (sized file)) (size-within file)
   where
-    few : (n m : ℕ) → n ≡ 3 → n ≤ m → 0 < m
+    few : (n m : ℕ) → 0 < n → n ≤ m → 0 < m
     few n m e h = omega arith
-longer {file} (arc {es = es} r f) = more (sizeOf file) (length file) (subst (λ (x : Record). Sized x (sizeOf file)) r (sized file)) (size-within file) (rw (length-drop 107 file) at (longer f))
+longer {file} (arc {es = es} r f) = more (sizeOf file) (length file) (subst (λ (x : Record). Sized x (sizeOf file)) r (sized file)) (size-within file) (rw (length-drop (sizeOf file) file) at (longer f))
   where
-    more : (n m : ℕ) → n ≡ 107 → n ≤ m → length es < m - 107 → suc (length es) < m
+    more : (n m : ℕ) → shortest ≤ n → n ≤ m → length es < m - n → suc (length es) < m
     more n m e h l = omega arith
 
 -- the answers of a list none of which is refused

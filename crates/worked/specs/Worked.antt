@@ -39,7 +39,7 @@ use Rattle.arcs.specs.Entries.{arcWithin, endsWithin, reversedDue, sweepDue, ex
 use Rattle.decimals.specs.Thousandths.{signed as signedWhole, thousandths}
 use Rattle.decimals.specs.Digits.{spelled, digits, numeral}
 use Rattle.edge_lines.specs.Lines.{bytes, spaced, corner, emptyLine, refusedLine, boxLine}
-use Rattle.edge_records.specs.Records.{lowFirst, numberAt, pointAt, headOf, cut, kindOf, edgeOf, recordOf}
+use Rattle.edge_records.specs.Records.{lowFirst, numberAt, pointAt, tagged, headOf, kindOf, edgeOf, recordOf, sizeOf}
 use Rattle.edge_file.specs.EdgeFile.{next, printed, ended, lineFrom, lineOf}
 
 -- what a case says
@@ -149,5 +149,5 @@ cases =
 
 -- every case computes
 pub all-hold : All cases
-unfolding cases add sub mul div neg lt le eq isNan ofBits toBits first isFinite nine within settled fabs signed choose sqrt reduced atan isOne ratioAngle angle atan2 negative least greatest within2 within3 plusC minusC timesC negC crossC dotC lesser greater widened widenedBy numbers free boxCall lengthC acrossC aheadC backC apartC turnC turnDue sweepFromC sweepC sideC takenC bothC extremesC pointsC arcWithin endsWithin sweepDue extendDue reversedC reversedDue inBytes number point arcRecord signedWhole thousandths spelled digits numeral bytes spaced corner emptyLine refusedLine boxLine lowFirst numberAt pointAt headOf cut kindOf edgeOf recordOf next printed ended lineFrom lineOf ofInt toUnsigned toSigned eight ceil secondRound medium toFive toNine remPio2 turnedSines sines sinesOrZeros acosFar acosNear acos quotientC chordsC clamped perTurnC limitedC countC upTo spokeC turnedC atC cutC innerC innersDue innerPointsDue
+unfolding cases add sub mul div neg lt le eq isNan ofBits toBits first isFinite nine within settled fabs signed choose sqrt reduced atan isOne ratioAngle angle atan2 negative least greatest within2 within3 plusC minusC timesC negC crossC dotC lesser greater widened widenedBy numbers free boxCall lengthC acrossC aheadC backC apartC turnC turnDue sweepFromC sweepC sideC takenC bothC extremesC pointsC arcWithin endsWithin sweepDue extendDue reversedC reversedDue inBytes number point arcRecord signedWhole thousandths spelled digits numeral bytes spaced corner emptyLine refusedLine boxLine lowFirst numberAt pointAt tagged headOf kindOf edgeOf recordOf sizeOf next printed ended lineFrom lineOf ofInt toUnsigned toSigned eight ceil secondRound medium toFive toNine remPio2 turnedSines sines sinesOrZeros acosFar acosNear acos quotientC chordsC clamped perTurnC limitedC countC upTo spokeC turnedC atC cutC innerC innersDue innerPointsDue
 all-hold = (refl, (refl, (refl, (refl, (refl, (refl, (refl, (refl, (refl, (refl, (refl, (refl, (refl, tt)))))))))))))

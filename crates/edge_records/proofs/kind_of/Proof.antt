@@ -3,7 +3,7 @@ use mathlib.Core.Path.{_∙_, ap}
 use native.Mathlib.Omega.{arith}
 use Rattle.edge_records.proofs.Heads.{short-head, short-body, whole-body}
 use borrow.Author.Needs.{needs}
-use Rattle.edge_records.specs.Records.{cut}
+use Rattle.edge_records.specs.Records.{sizeOfKind}
 use Rattle.edge_records.proofs.kind_of.Statement.{statement}
 use Rattle.edge_records.proofs.kind_of.Tie as tie
 
@@ -22,15 +22,19 @@ shared-slice-read-head-of-3 c = search needs
 head-of-requires : tie.Need-head-of-requires
 head-of-requires c κs = search needs
 
-cut-requires : tie.Need-cut-requires
-cut-requires c κs = search needs
+size-requires : tie.Need-size-requires
+size-requires c κs = search needs
 
 returns-2 : tie.Need-returns-2
-returns-2 c = let s = c .before .before .before .before .before .before .before .before .args .bytes .now in
-    c .cut .ensures ∙ ap cut (c .before .before .head-of .ensures) ∙ short-body s (omega arith) (c .before .if2 .taken)
+returns-2 c =
+    let s = c .before .before .before .before .before .before .before .before .args .bytes .now in
+    short-body s (omega arith) (omega (arith, c .before .size .ensures ∙ ap sizeOfKind (c .before .before .head-of .ensures)))
 
 returns-3 : tie.Need-returns-3
-returns-3 c = c .before .head-of .ensures ∙ whole-body (c .before .before .before .before .before .before .before .args .bytes .now) (c .if2 .left)
+returns-3 c =
+    let s = c .before .before .before .before .before .before .before .before .args .bytes .now in
+    let head = c .before .before .head-of in
+    head .ensures ∙ whole-body s (omega arith) (omega (arith, c .before .size .ensures ∙ ap sizeOfKind (head .ensures)))
 
 pub kind-of-spec : {M : Type 1} → statement M
 kind-of-spec =
@@ -41,6 +45,6 @@ kind-of-spec =
     shared-slice-read-head-of-2
     shared-slice-read-head-of-3
     head-of-requires
-    cut-requires
+    size-requires
     returns-2
     returns-3)

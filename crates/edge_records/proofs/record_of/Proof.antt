@@ -2,8 +2,9 @@
 use mathlib.Core.Path.{sym, _∙_, ap}
 use native.Mathlib.Omega.{arith}
 use lib.ListN.{drop}
+use Rattle.edge_records.specs.declared.Kind.the-variants as kind
 use Rattle.edge_records.specs.declared.Record.the-variants as first
-use Rattle.edge_records.specs.Laws.{arc-long}
+use Rattle.edge_records.specs.Laws.{kind-long}
 use Rattle.edge_records.proofs.Heads.{after-head}
 use borrow.Author.Needs.{needs}
 use Rattle.edge_records.specs.Records.{edgeOf, ofKind, recordOf}
@@ -19,12 +20,12 @@ enum-told c = search needs
 sub-edge-of : tie.Need-sub-edge-of
 sub-edge-of c =
     let s = c .before .before .before .before .args .bytes .now in
-    omega (arith, arc-long s (sym (c .before .before .kind-of .ensures) ∙ c .enum-told .given .1))
+    omega (arith, kind-long s kind.Arc (sym (c .before .before .kind-of .ensures) ∙ c .enum-told .given .1))
 
 part-edge-of-start : tie.Need-part-edge-of-start
 part-edge-of-start c =
     let s = c .before .before .before .before .args .bytes .now in
-    omega (arith, arc-long s (sym (c .before .before .kind-of .ensures) ∙ c .enum-told .given .1))
+    omega (arith, kind-long s kind.Arc (sym (c .before .before .kind-of .ensures) ∙ c .enum-told .given .1))
 
 part-edge-of-end : tie.Need-part-edge-of-end
 part-edge-of-end c = search needs
@@ -32,7 +33,7 @@ part-edge-of-end c = search needs
 edge-of-requires : tie.Need-edge-of-requires
 edge-of-requires c κs =
     let s = c .before .before .before .before .before .args .bytes .now in
-    omega (arith, arc-long s (sym (c .before .before .before .kind-of .ensures) ∙ c .before .enum-told .given .1))
+    omega (arith, kind-long s kind.Arc (sym (c .before .before .before .kind-of .ensures) ∙ c .before .enum-told .given .1))
 
 enum-told-2 : tie.Need-enum-told-2
 enum-told-2 c = search needs
@@ -47,7 +48,7 @@ returns : tie.Need-returns
 unfolding recordOf
 returns c =
     let s = c .before .before .before .before .before .before .args .bytes .now in
-    ap first.Arc (c .edge-of .ensures ∙ ap edgeOf (after-head s))
+    ap first.Edge (c .edge-of .ensures ∙ ap edgeOf (after-head s))
     ∙ ap (λ k. ofKind k (drop 3 s)) (sym (sym (c .before .before .before .before .kind-of .ensures) ∙ c .before .before .enum-told .given .1))
 
 returns-2 : tie.Need-returns-2

@@ -1,49 +1,19 @@
+-- `edge_records::size_of` meets its contract. Assumes nothing.
+use mathlib.Core.Path.{_∙_, ap}
 use borrow.Author.Needs.{needs}
-use Rattle.edge_records.specs.Records.{sizeOf}
+use Rattle.edge_records.specs.Records.{sizeOfKind, sizeOf}
 use Rattle.edge_records.proofs.size_of.Statement.{statement}
 use Rattle.edge_records.proofs.size_of.Tie as tie
 
 kind-of-requires : tie.Need-kind-of-requires
 kind-of-requires c κs = search needs
 
-enum-told : tie.Need-enum-told
-enum-told c = search needs
-
-enum-told-2 : tie.Need-enum-told-2
-enum-told-2 c = search needs
-
-enum-told-3 : tie.Need-enum-told-3
-enum-told-3 c = search needs
-
-enum-told-4 : tie.Need-enum-told-4
-enum-told-4 c = search needs
+size-requires : tie.Need-size-requires
+size-requires c κs = search needs
 
 returns : tie.Need-returns
 unfolding sizeOf
-returns c = simp (← c .before .before .kind-of .ensures, c .enum-told .given .1)
-
-returns-2 : tie.Need-returns-2
-unfolding sizeOf
-returns-2 c = simp (← c .before .before .kind-of .ensures, c .enum-told2 .given .1)
-
-returns-3 : tie.Need-returns-3
-unfolding sizeOf
-returns-3 c = simp (← c .before .before .kind-of .ensures, c .enum-told3 .given .1)
-
-returns-4 : tie.Need-returns-4
-unfolding sizeOf
-returns-4 c = simp (← c .before .before .kind-of .ensures, c .enum-told4 .given .1)
+returns c = c .size .ensures ∙ ap sizeOfKind (c .before .kind-of .ensures)
 
 pub size-of-spec : {M : Type 1} → statement M
-size-of-spec =
-    tie.close
-    (tie.spec
-    kind-of-requires
-    enum-told
-    enum-told-2
-    enum-told-3
-    enum-told-4
-    returns
-    returns-2
-    returns-3
-    returns-4)
+size-of-spec = tie.close (tie.spec kind-of-requires size-requires returns)
