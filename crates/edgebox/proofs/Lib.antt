@@ -1,2 +1,2 @@
 -- What several proofs of this crate cite.
-pub mod Moves
+pub mod Files

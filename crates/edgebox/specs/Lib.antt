@@ -1,1 +1,1 @@
-pub mod Buffer
+pub mod Input
