@@ -82,15 +82,15 @@ pub mod rust {
 pub mod second {
     use std::f64::consts::{PI, TAU};
 
-    use crate::track::{Num, Path, Vec3, answer, answer_vec3, in_range, num, vec3};
+    use crate::track::{Num, Path, Vec2, Vec3, answer, answer_vec3, in_range, num, vec2, vec3};
 
-    struct Arc {
-        centre: Vec3,
-        axis: Vec3,
-        radius: Num,
+    pub struct Arc {
+        pub centre: Vec3,
+        pub axis: Vec3,
+        pub radius: Num,
     }
 
-    fn arc(a: &[f64; 7]) -> Arc {
+    pub fn arc(a: &[f64; 7]) -> Arc {
         Arc { centre: vec3(&a[..3]), axis: vec3(&a[3..6]), radius: num(a[6]) }
     }
 
@@ -98,12 +98,16 @@ pub mod second {
         if !in_range(&[centre, a, b]) {
             return 1;
         }
-        let from_centre = |p: &[f64; 2]| (num(p[0]) - num(centre[0]), num(p[1]) - num(centre[1]));
+        answer(out, [turned(vec2(centre), ccw, vec2(a), vec2(b))])
+    }
+
+    pub fn turned(centre: Vec2, ccw: bool, a: Vec2, b: Vec2) -> Num {
+        let from_centre = |p: Vec2| (p.x - centre.x, p.y - centre.y);
         let ((ux, uy), (vx, vy)) = (from_centre(a), from_centre(b));
         let t = (ux * vy - uy * vx).atan2(ux * vx + uy * vy);
         let whole = if ccw { t.value <= 0.0 } else { t.value >= 0.0 };
         let full = num(if ccw { TAU } else { -TAU });
-        answer(out, [if whole { t + full } else { t }])
+        if whole { t + full } else { t }
     }
 
     pub fn unit(v: &[f64; 3], out: &mut [f64; 3]) -> u32 {
@@ -114,7 +118,7 @@ pub mod second {
         answer_vec3(out, v * (num(1.0) / v.dot(v).sqrt()))
     }
 
-    fn chords_per_turn(radius: Num, chord: Num, path: &mut Path) -> Num {
+    pub fn chords_per_turn(radius: Num, chord: Num, path: &mut Path) -> Num {
         let n = if path.reads(chord) < path.reads(radius) {
             num(PI).over_clamped((num(1.0) - chord / radius).acos())
         } else {
@@ -148,13 +152,13 @@ pub mod second {
     }
 
     impl Arc {
-        fn sweep(&self, from: Vec3, to: Vec3) -> Num {
+        pub fn sweep(&self, from: Vec3, to: Vec3) -> Num {
             let (u, v) = (from - self.centre, to - self.centre);
             let a = self.axis.dot(u.cross(v)).atan2(u.dot(v));
             if a.value <= 0.0 { a + num(TAU) } else { a }
         }
 
-        fn at(&self, from: Vec3, t: Num) -> Vec3 {
+        pub fn at(&self, from: Vec3, t: Num) -> Vec3 {
             let d = from - self.centre;
             let d = d - self.axis * d.dot(self.axis);
             let d = d * (self.radius / d.dot(d).sqrt());
@@ -163,7 +167,7 @@ pub mod second {
         }
 
         /// The points that a box call takes: both ends, then the candidates on the arc.
-        fn extremes(&self, from: Vec3, to: Vec3, path: &mut Path) -> Vec<[f64; 3]> {
+        pub fn extremes(&self, from: Vec3, to: Vec3, path: &mut Path) -> Vec<[f64; 3]> {
             let sweep = path.reads(self.sweep(from, to));
             let mut taken = vec![from.read(path), to.read(path)];
             for e in [[1.0, 0.0, 0.0], [0.0, 1.0, 0.0], [0.0, 0.0, 1.0]] {
@@ -230,11 +234,11 @@ pub mod second {
     }
 
     /// Of two zeros of unlike sign the negative one; neither is a NaN.
-    fn least(a: f64, b: f64) -> f64 {
+    pub fn least(a: f64, b: f64) -> f64 {
         if a < b || (a == b && a.is_sign_negative()) { a } else { b }
     }
 
-    fn greatest(a: f64, b: f64) -> f64 {
+    pub fn greatest(a: f64, b: f64) -> f64 {
         -least(-a, -b)
     }
 
@@ -542,19 +546,24 @@ fn edge_and_box(d: &mut Draw, i: &mut [f64], kind: Kind) {
 const FULL: u64 = 5_000_000;
 
 pub const ENTRIES: &[Entry] = &[
-    entry!(turn, jr_turn, 7, 1, FULL, TURNS, |f, i, o| f(at(i, 0), i[2] > 0.0, at(i, 3), at(i, 5), out(o))),
+    Entry { flags: &[2], ..entry!(turn, jr_turn, 7, 1, FULL, TURNS, |f, i, o| f(at(i, 0), i[2] > 0.0, at(i, 3), at(i, 5), out(o))) },
     entry!(unit, jr_unit, 3, 3, FULL, VECTORS, |f, i, o| f(at(i, 0), out(o))),
     entry!(per_turn, jr_per_turn, 2, 1, FULL, CHORDS, |f, i, o| f(i[0], i[1], out(o))),
     entry!(reversed, jr_reversed, 7, 7, FULL, edges!(arc_or_edge), |f, i, o| f(at(i, 0), out(o))),
     entry!(sweep, jr_sweep, 13, 1, FULL, edges!(arc_or_edge), |f, i, o| f(at(i, 0), at(i, 7), at(i, 10), out(o))),
     entry!(at, jr_at, 11, 3, FULL, edges!(arc_and_angle), |f, i, o| f(at(i, 0), at(i, 7), i[10], out(o))),
-    entry!(inner_points, jr_inner_points, 15, 1 + ROW, FULL, edges!(edge_and_row), |f, i, o| {
-        let (mut written, length) = ([7], i[14] as usize);
-        let row = &mut o[1..1 + length];
-        let refusal = f(at(i, 0), at(i, 7), at(i, 10), i[13], row.as_mut_ptr(), length, &mut written);
-        o[0] = written[0] as f64;
-        refusal
-    }),
+    Entry {
+        whole_inputs: &[14],
+        whole_outputs: &[0],
+        row: true,
+        ..entry!(inner_points, jr_inner_points, 15, 1 + ROW, FULL, edges!(edge_and_row), |f, i, o| {
+            let (mut written, length) = ([7], i[14] as usize);
+            let row = &mut o[1..1 + length];
+            let refusal = f(at(i, 0), at(i, 7), at(i, 10), i[13], row.as_mut_ptr(), length, &mut written);
+            o[0] = written[0] as f64;
+            refusal
+        })
+    },
     Entry {
         zeros_alike: true,
         ..entry!(extend_bounds, jr_extend_bounds, 19, 6, FULL, edges!(edge_and_box), |f, i, o| {

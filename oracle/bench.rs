@@ -7,6 +7,8 @@ use crate::compare::drawer;
 use crate::entry::{Call, Entry, UNTOUCHED};
 
 const INPUTS: usize = 4096;
+/// Of an entry whose calls are dear.
+const FEWER_INPUTS: usize = 512;
 const ROUNDS: usize = 15;
 
 /// Calls over all inputs take this many nanoseconds each.
@@ -37,30 +39,31 @@ fn best<const N: usize>(calls: [Call; N], inputs: &[f64], takes: usize, out: &mu
 
 pub fn bench(entries: &[&Entry], seed: u64) -> bool {
     let [empty] = best([|_, _| 0], &[1.0; INPUTS], 1, &mut []);
-    println!("ns per call, the best of {ROUNDS} rounds over {INPUTS} accepted inputs of a class; an empty call takes {empty:.1}");
-    println!("{:<15} {:<38} {:>8} {:>8} {:>6}", "NAME", "class", "port", "Rust", "ratio");
+    println!("ns per call, the best of {ROUNDS} rounds over {INPUTS} accepted inputs of a class ({FEWER_INPUTS} where a call is dear); an empty call takes {empty:.1}");
+    println!("{:<24} {:<42} {:>8} {:>8} {:>6}", "NAME", "class", "port", "Rust", "ratio");
     for e in entries {
-        for (class, draw) in e.classes {
+        let count = if e.full < 5_000_000 { FEWER_INPUTS } else { INPUTS };
+        for (class, draw) in e.classes.iter().take(e.timed) {
             let mut d = drawer(e, class, seed);
             let (mut input, mut out) = (vec![0.0; e.takes], vec![UNTOUCHED; e.gives]);
             let mut inputs = Vec::new();
             // A class of which hardly any is accepted is no measure of the accepted path.
-            for _ in 0..4 * INPUTS {
+            for _ in 0..4 * count {
                 draw(&mut d, &mut input);
-                if inputs.len() < INPUTS * e.takes && (e.second)(&input, &mut out) == 0 {
+                if inputs.len() < count * e.takes && (e.second)(&input, &mut out) == 0 {
                     inputs.extend_from_slice(&input);
                 }
             }
-            if inputs.len() == INPUTS * e.takes {
+            if inputs.len() == count * e.takes {
                 let [port, rust] = best([e.port, e.rust], &inputs, e.takes, &mut out);
-                println!("{:<15} {class:<38} {port:>8.1} {rust:>8.1} {:>6.2}", e.name, port / rust);
+                println!("{:<24} {class:<42} {port:>8.1} {rust:>8.1} {:>6.2}", e.name, port / rust);
             }
         }
     }
     for (name, call) in crate::rounding::OTHER_RIVALS {
         let inputs: Vec<f64> = (0..INPUTS).map(|k| k as f64 * 0.37 - 700.0).collect();
         let [rust] = best([*call], &inputs, 1, &mut [0.0]);
-        println!("{name:<15} {:<38} {:>8} {rust:>8.1}", "beside these", "");
+        println!("{name:<24} {:<42} {:>8} {rust:>8.1}", "beside these", "");
     }
     true
 }

@@ -1,7 +1,7 @@
 //! The comparison, bit by bit, and its table.
 
 use crate::draw::Draw;
-use crate::entry::{Entry, UNTOUCHED};
+use crate::entry::{ABSENT, Entry, UNTOUCHED};
 use crate::missing::MISSING;
 
 /// A NaN is as good as another; everything else bit by bit, and zeros by value where `zeros_alike`.
@@ -45,8 +45,10 @@ impl Trial {
         self.port.0 = (e.port)(&self.input, &mut self.port.1);
         let (port, second) = (&self.port, &self.second);
         if second.0 != 0 {
-            // Refused: the number, and what was lent as it was, to the last bit.
-            return if port.0 == second.0 && same_bits(&port.1, &second.1) { Verdict::RefusedAlike } else { Verdict::Different };
+            // Refused: the number, and what was lent as it was, to the last bit. What is absent is so in the Rust too.
+            let rust_well = second.0 != ABSENT || (e.rust)(&self.input, &mut self.rust) == ABSENT;
+            let port_well = port.0 == second.0 && same_bits(&port.1, &second.1);
+            return if port_well && rust_well { Verdict::RefusedAlike } else { Verdict::Different };
         }
         (e.rust)(&self.input, &mut self.rust);
         let port_well = port.0 == 0 && all_alike(&port.1, &self.rust, e.zeros_alike) && all_alike(&port.1, &second.1, false);
@@ -81,11 +83,18 @@ pub fn drawer(e: &Entry, class: &str, seed: u64) -> Draw {
     Draw::new(mark)
 }
 
+/// Calls of an entry where `count` is asked for: of a dear one, whose full run is shorter, fewer in proportion.
+fn calls(e: &Entry, count: Option<u64>) -> u64 {
+    const FULL: u64 = 5_000_000;
+    let scaled = |count: u64| (count as u128 * e.full.min(FULL) as u128).div_ceil(FULL as u128) as u64;
+    count.map_or(e.full, scaled).div_ceil(e.classes.len() as u64)
+}
+
 pub fn compare(entries: &[&Entry], count: Option<u64>, seed: u64) -> bool {
-    println!("{:<15} {:<38} {:>10} {:>10} {:>13} {:>9}  {}", "NAME", "class", "compared", "equal", "refused alike", "different", "by");
+    println!("{:<24} {:<42} {:>10} {:>10} {:>13} {:>9}  {}", "NAME", "class", "compared", "equal", "refused alike", "different", "by");
     let mut different = 0;
     for e in entries {
-        let each = count.unwrap_or(e.full).div_ceil(e.classes.len() as u64);
+        let each = calls(e, count);
         let mut trial = Trial::new(e);
         let mut shown = false;
         for (class, draw) in e.classes {
@@ -110,12 +119,49 @@ pub fn compare(entries: &[&Entry], count: Option<u64>, seed: u64) -> bool {
                 }
             }
             let by: Vec<String> = numbers.iter().map(u32::to_string).collect();
-            println!("{:<15} {class:<38} {each:>10} {equal:>10} {refused:>13} {wrong:>9}  {}", e.name, by.join(" "));
+            println!("{:<24} {class:<42} {each:>10} {equal:>10} {refused:>13} {wrong:>9}  {}", e.name, by.join(" "));
             different += wrong;
         }
     }
     if !MISSING.is_empty() {
         println!("not compared, since the port's library does not have them: {}", MISSING.join(" "));
+    }
+    println!("seed {seed}: {}", if different == 0 { "no difference".into() } else { format!("{different} different") });
+    different == 0
+}
+
+/// The second reading beside the Rust, with no port: the same bits where no refusal is due, and what is refused by which number.
+pub fn second(entries: &[&Entry], count: Option<u64>, seed: u64) -> bool {
+    println!("{:<24} {:<42} {:>10} {:>10} {:>9}  {}", "NAME", "class", "tried", "accepted", "different", "refused by number");
+    let mut different = 0;
+    for e in entries {
+        let mut trial = Trial::new(e);
+        for (class, draw) in e.classes {
+            let (each, mut accepted, mut wrong) = (calls(e, count), 0u64, 0u64);
+            let mut numbers = std::collections::BTreeMap::new();
+            let mut d = drawer(e, class, seed);
+            for _ in 0..each {
+                draw(&mut d, &mut trial.input);
+                trial.rust.fill(UNTOUCHED);
+                trial.second.1.fill(UNTOUCHED);
+                trial.second.0 = (e.second)(&trial.input, &mut trial.second.1);
+                let due = trial.second.0;
+                let rust = if due == 0 || due == ABSENT { (e.rust)(&trial.input, &mut trial.rust) } else { due };
+                *numbers.entry(due).or_insert(0u64) += 1;
+                accepted += (due == 0) as u64;
+                if rust != due || (due == 0 && !all_alike(&trial.second.1, &trial.rust, e.zeros_alike)) {
+                    wrong += 1;
+                    if different + wrong == 1 {
+                        trial.port = (due, trial.second.1.clone());
+                        trial.show(e, class);
+                    }
+                }
+            }
+            numbers.remove(&0);
+            let by: Vec<String> = numbers.iter().map(|(number, times)| format!("{number}: {times}")).collect();
+            println!("{:<24} {class:<42} {each:>10} {accepted:>10} {wrong:>9}  {}", e.name, by.join(", "));
+            different += wrong;
+        }
     }
     println!("seed {seed}: {}", if different == 0 { "no difference".into() } else { format!("{different} different") });
     different == 0
@@ -128,10 +174,14 @@ pub fn hash(entries: &[&Entry], count: u64, seed: u64) -> bool {
         let mut sum = 0u64;
         for (class, draw) in e.classes {
             let mut d = drawer(e, class, seed);
-            for _ in 0..count.div_ceil(e.classes.len() as u64) {
+            for _ in 0..calls(e, Some(count)) {
                 draw(&mut d, &mut input);
+                // Where a refusal is due the Rust may run for ever.
+                let refused = (e.second)(&input, &mut out) != 0;
                 out.fill(UNTOUCHED);
-                (e.rust)(&input, &mut out);
+                if !refused {
+                    (e.rust)(&input, &mut out);
+                }
                 for x in &out {
                     let x = if x.is_nan() { f64::NAN } else { *x };
                     let x = if e.zeros_alike && x == 0.0 { 0.0 } else { x };

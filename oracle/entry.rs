@@ -10,6 +10,7 @@ pub type Class = (&'static str, fn(&mut Draw, &mut [f64]));
 
 pub struct Entry {
     pub name: &'static str,
+    /// The port's functions that it calls, with spaces between.
     pub port_name: &'static str,
     /// Numbers that go in and come out.
     pub takes: usize,
@@ -18,7 +19,17 @@ pub struct Entry {
     pub full: u64,
     /// The outputs are least and greatest numbers: the Rust leaves a zero's sign open.
     pub zeros_alike: bool,
+    /// Inputs that are flags, set where they are above 0, and inputs and outputs that are whole numbers.
+    pub flags: &'static [usize],
+    pub whole_inputs: &'static [usize],
+    pub whole_outputs: &'static [usize],
+    /// The outputs are a count, and then a row of which so many numbers were written.
+    pub row: bool,
+    /// Whether the replayed list has it.
+    pub replayed: bool,
     pub classes: &'static [Class],
+    /// So many classes, the first ones, are timed.
+    pub timed: usize,
     pub port: Call,
     /// The unchanged Rust, which refuses nothing.
     pub rust: Call,
@@ -37,7 +48,13 @@ macro_rules! entry {
             gives: $gives,
             full: $full,
             zeros_alike: false,
+            flags: &[],
+            whole_inputs: &[],
+            whole_outputs: &[],
+            row: false,
+            replayed: true,
             classes: $classes,
+            timed: usize::MAX,
             port: |$i, $o| {
                 let $f = $port;
                 $call
@@ -54,6 +71,10 @@ macro_rules! entry {
     };
 }
 pub(crate) use entry;
+
+/// An unknown tag, and no such thing (`Trace::v` of a hole's meet): answers in a refusal's place that are none.
+pub const UNKNOWN: u32 = 254;
+pub const ABSENT: u32 = 255;
 
 /// Fills what a call has not written yet, so that a write is seen. No result of ours is likely to be this number.
 pub const UNTOUCHED: f64 = f64::from_bits(0x8123_4567_89ab_cdef);

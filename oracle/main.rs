@@ -1,6 +1,7 @@
 //! The driver: the Rust, the port and a second reading of the refusals, on the same inputs.
 //!
 //!     driver compare [--count N] [--seed S] [--only NAME]   table of comparisons, status 1 on a difference
+//!     driver second [--count N] [--seed S] [--only NAME]    the second reading beside the Rust, with no port
 //!     driver bench [--only NAME]                            nanoseconds of a call on both sides
 //!     driver hash [--count N] [--seed S]                    a sum over the Rust's answers, for another build
 //!     driver edgebox                                        what `edgebox` prints, by the Rust
@@ -27,6 +28,7 @@ mod arcs;
 mod bench;
 mod classes;
 mod compare;
+mod developments;
 mod draw;
 mod edges;
 mod elementary;
@@ -35,7 +37,9 @@ mod fuzz;
 mod motions;
 mod replay;
 mod rounding;
+mod shapes;
 mod track;
+mod traces;
 mod vectors;
 
 use std::io::Write;
@@ -44,7 +48,15 @@ use entry::Entry;
 
 /// All entries, group by group. Their places number the operations of the replayed list: new groups go to the end.
 fn entries() -> Vec<&'static Entry> {
-    let groups = [rounding::ENTRIES, elementary::ENTRIES, vectors::ENTRIES, motions::ENTRIES, arcs::ENTRIES];
+    let groups = [
+        rounding::ENTRIES,
+        elementary::ENTRIES,
+        vectors::ENTRIES,
+        motions::ENTRIES,
+        arcs::ENTRIES,
+        developments::ENTRIES,
+        traces::ENTRIES,
+    ];
     groups.into_iter().flatten().collect()
 }
 
@@ -97,7 +109,9 @@ fn main() {
     };
     let all = entries();
     let mut entries = all.clone();
-    entries.retain(|e| !missing::MISSING.contains(&e.port_name));
+    if mode != "second" {
+        entries.retain(|e| !e.port_name.split(' ').any(|name| missing::MISSING.contains(&name)));
+    }
     if let Some(name) = &chosen.only {
         entries.retain(|e| e.name == name);
         if entries.is_empty() {
@@ -107,6 +121,7 @@ fn main() {
     }
     let well = match mode.as_str() {
         "compare" => compare::compare(&entries, chosen.count, chosen.seed),
+        "second" => compare::second(&entries, chosen.count, chosen.seed),
         "hash" => compare::hash(&entries, chosen.count.unwrap_or(50_000), chosen.seed),
         "bench" => bench::bench(&entries, chosen.seed),
         "edgebox" => {

@@ -1,26 +1,35 @@
 //! A list of the Rust's answers, for a program that replays it with no Rust at hand. scripts/make_replay says what a line holds.
 
 use crate::compare::{all_alike, drawer};
-use crate::entry::{Entry, UNTOUCHED};
+use crate::entry::{ABSENT, Entry, UNKNOWN, UNTOUCHED};
 
-/// Inputs and outputs that are whole numbers or flags; the others are bit patterns.
-fn field(e: &Entry, input: bool, k: usize, x: f64) -> u64 {
-    match (e.name, input, k) {
-        ("turn", true, 2) => (x > 0.0) as u64,
-        ("inner_points", true, 14) | ("inner_points", false, 0) | ("dominant_axis", false, 0) => x as u64,
-        _ if x.is_nan() && !input => f64::NAN.to_bits(),
+/// Whole numbers and flags as themselves, the others as bit patterns.
+fn taken_field(e: &Entry, k: usize, x: f64) -> u64 {
+    match x {
+        _ if e.flags.contains(&k) => (x > 0.0) as u64,
+        _ if e.whole_inputs.contains(&k) => x as u64,
+        _ => x.to_bits(),
+    }
+}
+
+/// What a call leaves as it was is 0.
+fn given_field(e: &Entry, k: usize, x: f64) -> u64 {
+    match x {
+        _ if e.whole_outputs.contains(&k) => x as u64,
+        _ if x.to_bits() == UNTOUCHED.to_bits() => 0,
+        _ if x.is_nan() => f64::NAN.to_bits(),
         _ => x.to_bits(),
     }
 }
 
 /// What a call gives back: of a row only what was written.
 fn given(e: &Entry, out: &[f64]) -> usize {
-    if e.name == "inner_points" { 1 + out[0] as usize } else { e.gives }
+    if e.row { 1 + out[0] as usize } else { e.gives }
 }
 
-/// `each` calls of each class of each entry.
+/// `each` calls of each class of each entry. A port in Rattle knows no unknown tag, so these are left out; none is 99.
 pub fn replay(entries: &[&Entry], each: u64, seed: u64) -> bool {
-    for (k, e) in entries.iter().enumerate() {
+    for (k, e) in entries.iter().enumerate().filter(|(_, e)| e.replayed) {
         for (class, draw) in e.classes {
             let mut d = drawer(e, class, seed);
             let mut input = vec![0.0; e.takes];
@@ -37,12 +46,13 @@ pub fn replay(entries: &[&Entry], each: u64, seed: u64) -> bool {
                 }
                 let gives = if refusal == 0 { given(e, &out) } else { 0 };
                 // Few long rows: they make the list long and say no more.
-                if gives > 40 && place % 8 != 0 {
+                if refusal == UNKNOWN || (gives > 40 && place % 8 != 0) {
                     continue;
                 }
-                let mut fields = vec![format!("{:02} {refusal:02}", k + 1)];
-                fields.extend(input.iter().enumerate().map(|(k, x)| format!("{:016x}", field(e, true, k, *x))));
-                fields.extend(out[..gives].iter().enumerate().map(|(k, x)| format!("{:016x}", field(e, false, k, *x))));
+                let number = if refusal == ABSENT { 99 } else { refusal };
+                let mut fields = vec![format!("{:02} {number:02}", k + 1)];
+                fields.extend(input.iter().enumerate().map(|(k, x)| format!("{:016x}", taken_field(e, k, *x))));
+                fields.extend(out[..gives].iter().enumerate().map(|(k, x)| format!("{:016x}", given_field(e, k, *x))));
                 println!("{}", fields.join(" "));
             }
         }
@@ -52,7 +62,7 @@ pub fn replay(entries: &[&Entry], each: u64, seed: u64) -> bool {
 
 /// The operations by their numbers, with the count of numbers that each takes and gives.
 pub fn operations(entries: &[&Entry]) -> bool {
-    for (k, e) in entries.iter().enumerate() {
+    for (k, e) in entries.iter().enumerate().filter(|(_, e)| e.replayed) {
         println!("{:02} {} takes {} gives {}", k + 1, e.name, e.takes, e.gives);
     }
     true

@@ -78,6 +78,28 @@ impl Num {
         produced(self.value.ceil(), self.met)
     }
 
+    pub fn round(self) -> Num {
+        produced(libm::round(self.value), self.met)
+    }
+
+    pub fn abs(self) -> Num {
+        Num { value: self.value.abs(), met: self.met }
+    }
+
+    pub fn hypot(self, y: Num) -> Num {
+        produced(libm::hypot(self.value, y.value), self.met.min(y.met))
+    }
+
+    /// Of two zeros of unlike sign the negative one. What either has met, the lesser one has: a comparison reads both.
+    pub fn least(self, o: Num) -> Num {
+        let first = self.value < o.value || (self.value == o.value && self.value.is_sign_negative());
+        Num { value: if first { self.value } else { o.value }, met: self.met.min(o.met) }
+    }
+
+    pub fn greatest(self, o: Num) -> Num {
+        -(-self).least(-o)
+    }
+
     pub fn acos(self) -> Num {
         produced(libm::acos(self.value), self.met)
     }
@@ -86,11 +108,20 @@ impl Num {
         produced(libm::atan2(self.value, x.value), self.met.min(x.met))
     }
 
+    /// What an angle has met once its sine is due.
+    fn as_angle(self) -> Met {
+        let too_large = self.value.is_finite() && self.value.abs() > 1_048_576.0;
+        if self.met == NONE && too_large { meet(8) } else { self.met }
+    }
+
+    pub fn sin(self) -> Num {
+        let met = self.as_angle();
+        produced(libm::sin(self.value), met)
+    }
+
     pub fn sincos(self) -> (Num, Num) {
-        let angle = self.value;
-        let too_large = angle.is_finite() && angle.abs() > 1_048_576.0;
-        let met = if self.met == NONE && too_large { meet(8) } else { self.met };
-        let (s, c) = libm::sincos(angle);
+        let met = self.as_angle();
+        let (s, c) = libm::sincos(self.value);
         (produced(s, met), produced(c, met))
     }
 
@@ -120,11 +151,18 @@ impl Path {
         x.value
     }
 
-    /// A count of chords or pieces, already whole and at least 1.
+    /// A refusal that the way itself meets, where none was met before.
+    pub fn meets(&mut self, number: u64) {
+        if self.0 == NONE {
+            self.0 = meet(number);
+        }
+    }
+
+    /// A count of chords or pieces, already whole.
     pub fn count(&mut self, x: Num) -> u64 {
         let n = self.reads(x);
-        if self.0 == NONE && n > 65_535.0 {
-            self.0 = meet(10);
+        if n > 65_535.0 {
+            self.meets(10);
         }
         n as u64
     }
@@ -133,6 +171,16 @@ impl Path {
     pub fn due(&self) -> u32 {
         if self.0 == NONE { 0 } else { (self.0 & 0xff) as u32 }
     }
+}
+
+#[derive(Clone, Copy)]
+pub struct Vec2 {
+    pub x: Num,
+    pub y: Num,
+}
+
+pub fn vec2(v: &[f64]) -> Vec2 {
+    Vec2 { x: num(v[0]), y: num(v[1]) }
 }
 
 #[derive(Clone, Copy)]
@@ -193,9 +241,28 @@ pub fn in_range(numbers: &[&[f64]]) -> bool {
     numbers.iter().all(|row| row.iter().all(|x| x.is_finite() && x.abs() <= 1_048_576.0))
 }
 
+/// The least number whose test fails, 0 for none: what was handed in is tried in rising order.
+pub fn first_failed(tests: &[(u32, bool)]) -> u32 {
+    debug_assert!(tests.is_sorted_by_key(|(number, _)| *number));
+    tests.iter().find(|(_, fails)| *fails).map_or(0, |(number, _)| *number)
+}
+
+/// Number 4 for a box, and for sums.
+pub fn has_nan(numbers: &[f64]) -> bool {
+    numbers.iter().any(|x| x.is_nan())
+}
+
+pub fn has_unbounded(numbers: &[f64]) -> bool {
+    numbers.iter().any(|x| !x.is_finite())
+}
+
 /// The answer of an entry: the refusal due, or the numbers written.
 pub fn answer<const N: usize>(out: &mut [f64; N], numbers: [Num; N]) -> u32 {
-    let mut path = Path::new();
+    settle(Path::new(), out, numbers)
+}
+
+/// The same, where the way to the numbers may have met something.
+pub fn settle<const N: usize>(mut path: Path, out: &mut [f64; N], numbers: [Num; N]) -> u32 {
     let values = numbers.map(|x| path.reads(x));
     if path.due() == 0 {
         *out = values;

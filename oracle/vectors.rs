@@ -98,10 +98,13 @@ pub const ENTRIES: &[Entry] = &[
     entry!(difference, jr_difference, 6, 3, FULL, NUMBERS, |f, i, o| f(at(i, 0), at(i, 3), out(o))),
     entry!(negation, jr_negation, 3, 3, FULL, NUMBERS, |f, i, o| f(at(i, 0), out(o))),
     entry!(times, jr_times, 4, 3, FULL, NUMBERS, |f, i, o| f(at(i, 0), i[3], out(o))),
-    entry!(dominant_axis, jr_dominant_axis, 3, 1, FULL, NUMBERS, |f, i, o| {
-        let mut axis = [77];
-        let refusal = f(at(i, 0), &mut axis);
-        o[0] = axis[0] as f64;
-        refusal
-    }),
+    Entry {
+        whole_outputs: &[0],
+        ..entry!(dominant_axis, jr_dominant_axis, 3, 1, FULL, NUMBERS, |f, i, o| {
+            let mut axis = [77];
+            let refusal = f(at(i, 0), &mut axis);
+            o[0] = axis[0] as f64;
+            refusal
+        })
+    },
 ];
