@@ -35,6 +35,7 @@ mod elementary;
 mod entry;
 mod fuzz;
 mod motions;
+mod pieces;
 mod replay;
 mod rounding;
 mod shapes;
@@ -56,6 +57,7 @@ fn entries() -> Vec<&'static Entry> {
         arcs::ENTRIES,
         developments::ENTRIES,
         traces::ENTRIES,
+        pieces::ENTRIES,
     ];
     groups.into_iter().flatten().collect()
 }

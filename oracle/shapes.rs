@@ -511,28 +511,30 @@ pub fn piece(d: &mut Draw, shape: Shape) -> [f64; PIECE] {
     i
 }
 
-/// The classes of an entry whose inputs `$draw` draws for a shape; the first five are timed.
+/// The classes of an entry whose inputs `$draw` draws for a shape, or for a case that holds one, and more classes; the first five
+/// are timed.
 macro_rules! shapes {
-    ($draw:ident) => {{
+    ($draw:ident $(, $case:path)? $(; $more:expr)*) => {{
         use crate::shapes::Shape;
         const CLASSES: &[crate::entry::Class] = &[
-            ("straight cuts of pipes", |d, i| $draw(d, i, Shape::Straight)),
-            ("arcs of cuts", |d, i| $draw(d, i, Shape::Arc)),
-            ("waves", |d, i| $draw(d, i, Shape::Wave)),
-            ("branches on a main", |d, i| $draw(d, i, Shape::Branch)),
-            ("holes for a branch", |d, i| $draw(d, i, Shape::Hole)),
-            ("worked out by hand", |d, i| $draw(d, i, Shape::ByHand)),
-            ("meets that touch or miss", |d, i| $draw(d, i, Shape::Touching)),
-            ("equal tees", |d, i| $draw(d, i, Shape::EqualTee)),
-            ("axes along z", |d, i| $draw(d, i, Shape::Parallel)),
-            ("waves of many turns", |d, i| $draw(d, i, Shape::ManyTurns)),
-            ("neutral radii and angles at their limits", |d, i| $draw(d, i, Shape::Limits)),
-            ("whole numbers", |d, i| $draw(d, i, Shape::Whole)),
-            ("wild", |d, i| $draw(d, i, Shape::Wild)),
-            ("tiny and subnormal", |d, i| $draw(d, i, Shape::Tiny)),
-            ("signed zeros", |d, i| $draw(d, i, Shape::Zeros)),
-            ("refused radii, traces and tags", |d, i| $draw(d, i, Shape::Refused)),
-            ("every bit pattern", |d, i| $draw(d, i, Shape::Every)),
+            ("straight cuts of pipes", |d, i| $draw(d, i, $($case)?(Shape::Straight))),
+            ("arcs of cuts", |d, i| $draw(d, i, $($case)?(Shape::Arc))),
+            ("waves", |d, i| $draw(d, i, $($case)?(Shape::Wave))),
+            ("branches on a main", |d, i| $draw(d, i, $($case)?(Shape::Branch))),
+            ("holes for a branch", |d, i| $draw(d, i, $($case)?(Shape::Hole))),
+            ("worked out by hand", |d, i| $draw(d, i, $($case)?(Shape::ByHand))),
+            ("meets that touch or miss", |d, i| $draw(d, i, $($case)?(Shape::Touching))),
+            ("equal tees", |d, i| $draw(d, i, $($case)?(Shape::EqualTee))),
+            ("axes along z", |d, i| $draw(d, i, $($case)?(Shape::Parallel))),
+            ("waves of many turns", |d, i| $draw(d, i, $($case)?(Shape::ManyTurns))),
+            ("neutral radii and angles at their limits", |d, i| $draw(d, i, $($case)?(Shape::Limits))),
+            ("whole numbers", |d, i| $draw(d, i, $($case)?(Shape::Whole))),
+            ("wild", |d, i| $draw(d, i, $($case)?(Shape::Wild))),
+            ("tiny and subnormal", |d, i| $draw(d, i, $($case)?(Shape::Tiny))),
+            ("signed zeros", |d, i| $draw(d, i, $($case)?(Shape::Zeros))),
+            ("refused radii, traces and tags", |d, i| $draw(d, i, $($case)?(Shape::Refused))),
+            ("every bit pattern", |d, i| $draw(d, i, $($case)?(Shape::Every))),
+            $($more),*
         ];
         CLASSES
     }};
