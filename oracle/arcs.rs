@@ -18,6 +18,11 @@ unsafe extern "C" {
     safe fn jr_extend_bounds(arc: &[f64; 7], from: &[f64; 3], to: &[f64; 3], corners: &mut [f64; 6]) -> u32;
 }
 
+/// The port's box call of an arc, for lists of box calls.
+pub fn port_extend_bounds(arc: &[f64; 7], from: &[f64; 3], to: &[f64; 3], corners: &mut [f64; 6]) -> u32 {
+    jr_extend_bounds(arc, from, to, corners)
+}
+
 pub mod rust {
     use datum_math::{Vec2, Vec3};
 

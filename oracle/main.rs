@@ -28,11 +28,13 @@ mod arcs;
 mod bench;
 mod classes;
 mod compare;
+mod curves;
 mod developments;
 mod draw;
 mod edges;
 mod elementary;
 mod entry;
+mod faces;
 mod fuzz;
 mod motions;
 mod pieces;
@@ -58,6 +60,10 @@ fn entries() -> Vec<&'static Entry> {
         developments::ENTRIES,
         traces::ENTRIES,
         pieces::ENTRIES,
+        curves::ENTRIES,
+        faces::ENTRIES,
+        curves::LISTS,
+        faces::WHOLE,
     ];
     groups.into_iter().flatten().collect()
 }

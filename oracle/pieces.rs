@@ -614,6 +614,19 @@ fn most_deviations(d: &mut Draw, i: &mut [f64], shape: Shape) {
     }
 }
 
+/// The ends and the senses are exchanged whatever the shape.
+const REVERSED: &[crate::entry::Class] = &[
+    ("pieces of all shapes", |d, i| {
+        let shape = shapes::ALL[d.below(shapes::ALL.len() as u64) as usize];
+        alone(d, i, shape)
+    }),
+    ("arcs of cuts", |d, i| alone(d, i, Shape::Arc)),
+    ("holes for a branch", |d, i| alone(d, i, Shape::Hole)),
+    ("signed zeros", |d, i| alone(d, i, Shape::Zeros)),
+    ("refused radii, traces and tags", |d, i| alone(d, i, Shape::Refused)),
+    ("every bit pattern", |d, i| alone(d, i, Shape::Every)),
+];
+
 /// A count that was written, else what stood there.
 fn count(refusal: u32, n: [u64; 1], o: &mut [f64]) -> u32 {
     o[0] = n[0] as f64;
@@ -645,7 +658,7 @@ pub const ENTRIES: &[Entry] = &[
     })),
     Entry {
         whole_outputs: TAGS,
-        ..tagged(entry!(piece_reversed, jr_piece_reversed, PIECE, PIECE, FULL, shapes!(alone), |f, i, o| {
+        ..tagged(entry!(piece_reversed, jr_piece_reversed, PIECE, PIECE, FULL, REVERSED, |f, i, o| {
             let mut tags = [77, 77];
             let refusal = f(at(i, 0), i[26] as u32, i[27] as u32, out(o), &mut tags);
             o[26..].copy_from_slice(&tags.map(|tag| tag as f64));

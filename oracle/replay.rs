@@ -27,13 +27,19 @@ fn given(e: &Entry, out: &[f64]) -> usize {
     if e.row { 1 + out[0] as usize } else { e.gives }
 }
 
+/// Calls of each class: fewer where the lines are long and the classes many.
+fn calls(e: &Entry, each: u64) -> u64 {
+    let numbers = (e.takes * e.classes.len()) as u64;
+    if numbers <= 180 { each } else { (each * 90 / numbers).max(2) }
+}
+
 /// `each` calls of each class of each entry. A port in Rattle knows no unknown tag, so these are left out; none is 99.
 pub fn replay(entries: &[&Entry], each: u64, seed: u64) -> bool {
     for (k, e) in entries.iter().enumerate().filter(|(_, e)| e.replayed) {
         for (class, draw) in e.classes {
             let mut d = drawer(e, class, seed);
             let mut input = vec![0.0; e.takes];
-            for place in 0..each {
+            for place in 0..calls(e, each) {
                 draw(&mut d, &mut input);
                 let (mut out, mut rust) = (vec![UNTOUCHED; e.gives], vec![UNTOUCHED; e.gives]);
                 let refusal = (e.second)(&input, &mut out);

@@ -254,6 +254,24 @@ pub enum Shape {
     Every,
 }
 
+pub const ALL: &[Shape] = &[
+    Shape::Straight,
+    Shape::Arc,
+    Shape::Wave,
+    Shape::Branch,
+    Shape::Hole,
+    Shape::ByHand,
+    Shape::Touching,
+    Shape::EqualTee,
+    Shape::Parallel,
+    Shape::ManyTurns,
+    Shape::Limits,
+    Shape::Whole,
+    Shape::Wild,
+    Shape::Tiny,
+    Shape::Zeros,
+];
+
 /// How many numbers a trace of this kind has.
 pub fn trace_numbers(kind: u32) -> usize {
     [0, 3, 8, 10].get(kind as usize).copied().unwrap_or(0)
