@@ -27,6 +27,9 @@ fn given(e: &Entry, out: &[f64]) -> usize {
     if e.row { 1 + out[0] as usize } else { e.gives }
 }
 
+/// A line and its newline fit into the buffer of the program that reads them.
+const MOST_BYTES: usize = 4096;
+
 /// Calls of each class: fewer where the lines are long and the classes many.
 fn calls(e: &Entry, each: u64) -> u64 {
     let numbers = (e.takes * e.classes.len()) as u64;
@@ -59,7 +62,10 @@ pub fn replay(entries: &[&Entry], each: u64, seed: u64) -> bool {
                 let mut fields = vec![format!("{:02} {number:02}", k + 1)];
                 fields.extend(input.iter().enumerate().map(|(k, x)| format!("{:016x}", taken_field(e, k, *x))));
                 fields.extend(out[..gives].iter().enumerate().map(|(k, x)| format!("{:016x}", given_field(e, k, *x))));
-                println!("{}", fields.join(" "));
+                let line = fields.join(" ");
+                if line.len() < MOST_BYTES {
+                    println!("{line}");
+                }
             }
         }
     }
