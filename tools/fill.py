@@ -12,11 +12,15 @@ It unfolds the crate's own unfoldable definitions that the function's `ensures` 
 The outcome of a test of two whole numbers goes in as each test of a definition that it settles (`a < b` as `ltb a b` and
 as `leb b a`), and what a call that gives a whole number ensures goes in from right to left: the definition's word
 becomes the number that the code tested.
+An entry that begins with `handed::tried` answers by the laws of `passing`.
 What a `simp` did not apply goes out again by `tools/trim.py CRATE`.
 The rules are the ruleset `rules` of each Laws.antt in the specs/ of the crate and of the crates that it needs, if there.
 A function with a loop keeps the holes of its invariant and measure. What does not close is left for you to edit.
 """
 import os, re, subprocess, sys
+
+# the function that gives the number of the first test of what was handed in that fails, 0 for none
+TRIED = 'handed::tried'
 
 def read(path):
     return open(path, encoding='utf-8').read() if os.path.exists(path) else ''
@@ -119,7 +123,9 @@ def facts(way, called, ensured, refusals, result_of=''):
     for at, (path, field, own) in enumerate(way):
         earlier = way[at + 1] if at + 1 < len(way) else ('', '', [])
         if own in (['taken'], ['left']):
-            if known(earlier[1])[1] == 'bool' and own.direct:
+            if called.get(earlier[1]) == TRIED:
+                out += [f'{path} .{field} .taken', 'passing-none'] if own[0] == 'taken' else []
+            elif known(earlier[1])[1] == 'bool' and own.direct:
                 tested = earlier
                 out.append(f'sym ({earlier[0]} .{earlier[1]} .ensures) ∙ {path} .{field} .{own[0]}')
             elif own.laws:
@@ -136,7 +142,7 @@ def facts(way, called, ensured, refusals, result_of=''):
             for i, clause in enumerate(clauses):
                 if refusals or '.refusal ' not in clause:
                     numbers = ('u16', 'u32', 'u64', 'usize') + (() if result_of == 'bool' else ('bool',))
-                    back = '← ' if result in numbers and '≡' in clause else ''
+                    back = '← ' if (result in numbers or called[field] == TRIED) and '≡' in clause else ''
                     out.append(f'{back}{path} .{field} .ensures' + ' .1' * i + (' .0' if i < len(clauses) - 1 else ''))
     return out
 
@@ -157,7 +163,7 @@ def main():
     # laws NAME-refusal of the definitions NAMEC: which notes suffice
     laws = {}
     for f in sorted(os.listdir(f'crates/{crate}/specs')) if os.path.isdir(f'crates/{crate}/specs') else []:
-        for l in re.findall(r'^pub (\S+-refusal) :', read(f'crates/{crate}/specs/{f}'), re.M):
+        for l in re.findall(r'^ *pub (\S+-refusal) :', read(f'crates/{crate}/specs/{f}'), re.M):
             laws[l] = f[:-5]
     env = dict(os.environ, RT_CUT='0')
     said = subprocess.run(['rt', 'dev', crate], stdout=subprocess.PIPE, stderr=subprocess.STDOUT, text=True, env=env).stdout
@@ -205,10 +211,13 @@ def main():
                 if law:
                     known += ['first-assoc', 'zero-first']
                     used_laws.add(law)
-                elif '.refusal ' in clause or 'Due ' in clause or result == 'u8':
+                elif TRIED not in called.values() and ('.refusal ' in clause or 'Due ' in clause or result == 'u8'):
                     used_rules = True
                     known += [r for _, r in rules]
                 part = 'simp (' + ', '.join(known) + ')' if known else 'refl'
+                last = ways[need][0]
+                if last[2] == ['left'] and called.get(ways[need][1][1]) == TRIED:
+                    part += f' (sym (passing-some _ _ ({last[0]} .{last[1]} .left)))'
                 if law:
                     start = next(path for path, field, _ in ways[need] if field == 'args')
                     cited = re.search(re.escape(law[:-8]) + r'C ((?:[^\s.]+ )*)\.refusal', clause).group(1).split()
@@ -228,6 +237,9 @@ def main():
                 uses.append(f'use Rattle.{crate}.specs.{f}.{{{", ".join(sorted(l for l in used_laws if laws[l] == f))}}}')
         if settled:
             uses.append('use Rattle.checked.specs.Laws.{settled-some, settled-none}' if crate != 'checked' else 'use Rattle.checked.specs.Laws.{settled-some, settled-none}')
+        passing = [l for l in ('passing-none', 'passing-some') if l in text]
+        if passing:
+            uses.append('use Rattle.handed.specs.Laws.{' + ', '.join(passing) + '}')
         tests = [l for l in ('lt-ltb', 'le-ltb', 'le-leb', 'lt-leb', 'eq-eqb', 'ne-eqb') if l + ' _ _' in text]
         if tests:
             uses.append('use borrow.Author.Tests.{' + ', '.join(tests) + '}')
