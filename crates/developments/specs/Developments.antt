@@ -1,10 +1,8 @@
 -- The development of a cylinder, and what its entries are due to answer.
-use Prim.Native.Nat.{ℕ}
-use mathlib.Core.Bool.{Bool, _&&_, cond}
-use lib.Ieee.{Float, lt}
-use Rattle.checked.specs.Refusals.{OUT-OF-RANGE, NEUTRAL-NOT-POSITIVE}
-use Rattle.checked.specs.Checked.{Checked, first, _>>=_, given, within, Due, due, refused, answered, unless}
-use Rattle.checked.specs.Numbers.{zero}
+use mathlib.Core.Bool.{Bool, _&&_}
+use lib.Ieee.{Float}
+use Rattle.checked.specs.Checked.{Checked, first, _>>=_, given, within, Due, due, refused, answered}
+use Rattle.handed.specs.Handed.{handed, passing}
 use Rattle.motions.specs.declared.Rigid.{Rigid}
 use Rattle.motions.specs.Motions.{withinRigid, applyC, applyVectorC}
 use Rattle.vectors.specs.declared.Vec2.{Vec2}
@@ -39,31 +37,23 @@ movedC d m = do
 unfoldable pub developmentWithin : Development → Bool
 developmentWithin d = within3 (d .origin) && (within3 (d .axis) && (within3 (d .start) && within (d .neutral)))
 
--- all numbers handed in, then the neutral radius
-abbrev pub handed : {A : Type 0} → Bool → Float → Due A → Due A
-handed all neutral rest = unless OUT-OF-RANGE all (unless NEUTRAL-NOT-POSITIVE (lt zero neutral) rest)
-
--- the number of the test that fails first
-unfoldable pub tests : Bool → Float → ℕ
-tests all neutral = cond all (cond (lt zero neutral) 0 NEUTRAL-NOT-POSITIVE) OUT-OF-RANGE
-
 -- ---- what is due
 -- `Development::radial`
 unfoldable pub radialDue : Development → Float → Due Vec3
-radialDue d u = handed (developmentWithin d && within u) (d .neutral) (answered (radialC (d .axis) (d .start) (d .neutral) u))
+radialDue d u = passing (handed (developmentWithin d && within u) (d .neutral)) (answered (radialC (d .axis) (d .start) (d .neutral) u))
 
 -- `Development::point`
 unfoldable pub pointDue : Development → Vec2 → Float → Due Vec3
-pointDue d p r = handed (developmentWithin d && (within2 p && within r)) (d .neutral) (answered (pointC (d .origin) (d .axis) (d .start) (d .neutral) p r))
+pointDue d p r = passing (handed (developmentWithin d && (within2 p && within r)) (d .neutral)) (answered (pointC (d .origin) (d .axis) (d .start) (d .neutral) p r))
 
 -- `Development::along`
 unfoldable pub alongDue : Development → Vec2 → Vec2 → Float → Due Vec3
-alongDue d p v r = handed (developmentWithin d && (within2 p && (within2 v && within r))) (d .neutral) (answered (alongC (d .axis) (d .start) (d .neutral) p v r))
+alongDue d p v r = passing (handed (developmentWithin d && (within2 p && (within2 v && within r))) (d .neutral)) (answered (alongC (d .axis) (d .start) (d .neutral) p v r))
 
 -- `Development::unroll`
 unfoldable pub unrollDue : Development → Vec3 → Float → Due Unrolled
-unrollDue d q near = handed (developmentWithin d && (within3 q && within near)) (d .neutral) (answered (unrollC (d .origin) (d .axis) (d .start) (d .neutral) q near))
+unrollDue d q near = passing (handed (developmentWithin d && (within3 q && within near)) (d .neutral)) (answered (unrollC (d .origin) (d .axis) (d .start) (d .neutral) q near))
 
 -- `Development::moved`
 unfoldable pub movedDue : Development → Rigid → Due Development
-movedDue d m = handed (developmentWithin d && withinRigid m) (d .neutral) (answered (movedC d m))
+movedDue d m = passing (handed (developmentWithin d && withinRigid m) (d .neutral)) (answered (movedC d m))

@@ -1,9 +1,8 @@
 -- What the entry on meets is due to answer.
 use mathlib.Core.Bool.{Bool, true, _&&_}
-use lib.Ieee.{Float, lt}
-use Rattle.checked.specs.Refusals.{OUT-OF-RANGE, NEUTRAL-NOT-POSITIVE}
-use Rattle.checked.specs.Checked.{within, Due, due, refused, answered, unless}
-use Rattle.checked.specs.Numbers.{zero}
+use lib.Ieee.{Float}
+use Rattle.checked.specs.Checked.{within, Due, due, refused, answered}
+use Rattle.handed.specs.Handed.{handed, passing}
 use Rattle.vectors.specs.Vectors.{within3}
 use Rattle.reaches.specs.declared.Jet.{Jet}
 use Rattle.meets.specs.declared.Turn.{Turn}
@@ -28,4 +27,4 @@ meetWithin m = within3 (m .origin) && (within3 (m .axis) && (within (m .radius) 
 
 -- `Meet::point`
 unfoldable pub pointDue : Meet → Float → Float → Due Jet
-pointDue m phi n = unless OUT-OF-RANGE (meetWithin m && (within phi && within n)) (unless NEUTRAL-NOT-POSITIVE (lt zero n) (answered (jetC m phi n)))
+pointDue m phi n = passing (handed (meetWithin m && (within phi && within n)) n) (answered (jetC m phi n))

@@ -1,10 +1,9 @@
 -- `Trace::v`: v at u of a curve of a development that is v of u; none for a meet with `turn`, and in no other case.
 use mathlib.Core.Bool.{Bool, _&&_}
-use lib.Ieee.{Float, lt}
-use Rattle.checked.specs.Refusals.{OUT-OF-RANGE, NEUTRAL-NOT-POSITIVE}
-use Rattle.checked.specs.Checked.{Checked, first, _>>=_, given, finite, num, _⊘_, within, Due, due, refused, answered, unless}
-use Rattle.checked.specs.Numbers.{zero}
-use Rattle.waves.specs.Waves as waves
+use lib.Ieee.{Float}
+use Rattle.checked.specs.Checked.{Checked, first, _>>=_, given, finite, num, _⊘_, within, Due, due, refused, answered}
+use Rattle.handed.specs.Handed.{handed, passing}
+use Rattle.wave_values.specs.Values as wave-values
 use Rattle.waves.specs.Entries.{waveWithin}
 use Rattle.meets.specs.declared.Turn.{Turn}
 use Rattle.meets.specs.declared.Turn.the-variants as turn
@@ -44,7 +43,7 @@ meetC m u n = meetBy (m .turn) m u n
 
 unfoldable pub vC : Trace → Float → Float → Checked (Optional Float)
 vC (trace.Wave w) u n = do
-  v ← waves.vC w u n
+  v ← wave-values.vC (w .a) (w .b) (w .c) u n
   given (some v)
 vC (trace.Meet m) u n = meetC m u n
 
@@ -55,4 +54,4 @@ traceWithin (trace.Meet m) = meetWithin m
 
 -- `Trace::v`
 unfoldable pub vDue : Trace → Float → Float → Due (Optional Float)
-vDue t u n = unless OUT-OF-RANGE (traceWithin t && (within u && within n)) (unless NEUTRAL-NOT-POSITIVE (lt zero n) (answered (vC t u n)))
+vDue t u n = passing (handed (traceWithin t && (within u && within n)) n) (answered (vC t u n))

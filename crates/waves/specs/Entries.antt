@@ -1,18 +1,17 @@
 -- What the entries on waves are due to answer.
 use mathlib.Core.Bool.{Bool, _&&_}
-use lib.Ieee.{Float, lt}
-use Rattle.checked.specs.Refusals.{OUT-OF-RANGE, NEUTRAL-NOT-POSITIVE}
-use Rattle.checked.specs.Checked.{within, Due, due, refused, answered, unless}
-use Rattle.checked.specs.Numbers.{zero}
+use lib.Ieee.{Float}
+use Rattle.checked.specs.Checked.{within, Due, due, refused, answered}
+use Rattle.handed.specs.Handed.{handed, passing}
+use Rattle.wave_values.specs.declared.Jet.{Jet}
+use Rattle.wave_values.specs.Values.{jetC}
+use Rattle.wave_ranges.specs.declared.Span.{Span}
+use Rattle.wave_ranges.specs.Ranges.{rangeC}
 use Rattle.waves.specs.declared.Wave.{Wave}
-use Rattle.waves.specs.declared.Jet.{Jet}
-use Rattle.waves.specs.declared.Span.{Span}
 use Rattle.waves.specs.declared.WaveJet.{WaveJet}
 use Rattle.waves.specs.declared.WaveJet.the-variants as wave-jet
 use Rattle.waves.specs.declared.WaveSpan.{WaveSpan}
 use Rattle.waves.specs.declared.WaveSpan.the-variants as wave-span
-use Rattle.waves.specs.Waves.{jetC}
-use Rattle.waves.specs.Ranges.{rangeC}
 
 -- ---- what the code's answers say
 abbrev pub jetDue : WaveJet → Due Jet
@@ -30,8 +29,8 @@ waveWithin w = within (w .a) && (within (w .b) && within (w .c))
 
 -- `Wave::at`
 unfoldable pub atDue : Wave → Float → Float → Due Jet
-atDue w u n = unless OUT-OF-RANGE (waveWithin w && (within u && within n)) (unless NEUTRAL-NOT-POSITIVE (lt zero n) (answered (jetC w u n)))
+atDue w u n = passing (handed (waveWithin w && (within u && within n)) n) (answered (jetC (w .a) (w .b) (w .c) u n))
 
 -- `Wave::range`
 unfoldable pub rangeDue : Wave → Float → Float → Float → Due Span
-rangeDue w u0 u1 n = unless OUT-OF-RANGE (waveWithin w && (within u0 && (within u1 && within n))) (unless NEUTRAL-NOT-POSITIVE (lt zero n) (answered (rangeC w u0 u1 n)))
+rangeDue w u0 u1 n = passing (handed (waveWithin w && (within u0 && (within u1 && within n))) n) (answered (rangeC (w .a) (w .b) (w .c) u0 u1 n))
