@@ -1,29 +1,30 @@
-// The arc of an edge: what a program may call is here, the bare formulas are in `formula`.
+// The arc of an edge: what a program may call. The formulas are in crates sweeps, spokes, extremes and cuts, on the parts of an arc.
 ghost use mathlib.Core.Path.{_≡_};
-ghost use mathlib.Core.Bool.{_&&_};
-ghost use Rattle.checked.specs.Checked.{numberDue, settled, within};
-ghost use Rattle.vectors.specs.Vectors.{within3};
+ghost use Rattle.checked.specs.Checked.{numberDue, settled};
 ghost use Rattle.vectors.specs.Entries.{vectorDue};
 ghost use lib.ListN.{length};
 ghost use Rattle.boxes.specs.Boxes.{widenedDue, outcome, Lent};
 ghost use Rattle.rows.specs.Rows.{numberOf, partOf, Drawn};
-ghost use Rattle.arcs.specs.Inner.{innerPointsDue};
-ghost use Rattle.arcs.specs.Entries.{arcDue, arcWithin, endsWithin, reversedDue, sweepDue, atDue, extendDue};
+ghost use Rattle.arcs.specs.Entries.{innerPointsDue, arcDue, reversedDue, sweepDue, atDue, extendDue};
 use boxes::Bounds;
+use boxes::CheckedBounds;
 use boxes::Outcome;
 use boxes::Widened;
 use checked::BAD_BOX_OR_SUMS;
 use checked::BAD_TOLERANCE;
 use checked::Number;
 use checked::OUT_OF_RANGE;
-use checked::is_within;
+use cuts::chord_within;
+use cuts::cut_up;
+use cuts::write_points;
+use rows::Written;
+use spokes::angle_within;
+use sweeps::circle_within;
+use sweeps::ends_within;
 use vectors::Vec3;
 use vectors::Vector;
-use vectors::is_within3;
 
-pub mod extremes;
 pub mod formula;
-pub mod inner;
 
 // An arc counterclockwise about `axis`, a unit vector, around `center`.
 pub struct Arc {
@@ -36,24 +37,6 @@ pub struct Arc {
 pub struct CheckedArc {
     pub value: Arc,
     pub refusal: u8,
-}
-
-// An arc's sweep, and into how many chords it is cut.
-pub struct Cut {
-    pub turn: f64,
-    pub chords: u16,
-}
-
-// A cut, with the refusal that its computation met first; 0 is none.
-pub struct CheckedCut {
-    pub value: Cut,
-    pub refusal: u8,
-}
-
-// What a call on a lent row answers: the refusal's number or 0, and how many points are written.
-pub struct Written {
-    pub refusal: u8,
-    pub points: u16,
 }
 
 // The answer of an entry whose result is an arc.
@@ -76,32 +59,11 @@ fn settle(c: CheckedArc) -> ArcAnswer
 }
 
 impl Arc {
-    // Every number of the arc passes the test of what is handed in.
-    pub fn is_within(self) -> bool
-        ensures { λ r. ⌜ r ≡ arcWithin self ⌝ }
-    {
-        let c = self.center;
-        let a = self.axis;
-        is_within3(c) & (is_within3(a) & is_within(self.radius))
-    }
-
-    fn ends_within(self, from: Vec3, to: Vec3) -> bool
-        ensures { λ r. ⌜ r ≡ endsWithin self from to ⌝ }
-    {
-        self.is_within() & (is_within3(from) & is_within3(to))
-    }
-
-    fn angle_within(self, from: Vec3, t: f64) -> bool
-        ensures { λ r. ⌜ r ≡ (arcWithin self && (within3 from && within t)) ⌝ }
-    {
-        self.is_within() & (is_within3(from) & is_within(t))
-    }
-
     // The same arc run the other way.
     pub fn reversed(self) -> ArcAnswer
         ensures { λ r. ⌜ arcDue r ≡ reversedDue self ⌝ }
     {
-        if self.is_within() {
+        if circle_within(self.center, self.axis, self.radius) {
             settle(formula::reversed(self))
         } else {
             ArcAnswer::Refused(OUT_OF_RANGE)
@@ -112,8 +74,8 @@ impl Arc {
     pub fn sweep(self, from: Vec3, to: Vec3) -> Number
         ensures { λ r. ⌜ numberDue r ≡ sweepDue self from to ⌝ }
     {
-        if self.ends_within(from, to) {
-            checked::settle(formula::sweep(self, from, to))
+        if ends_within(self.center, self.axis, self.radius, from, to) {
+            checked::settle(sweeps::sweep(self.center, self.axis, from, to))
         } else {
             Number::Refused(OUT_OF_RANGE)
         }
@@ -123,8 +85,8 @@ impl Arc {
     pub fn at(self, from: Vec3, t: f64) -> Vector
         ensures { λ r. ⌜ vectorDue r ≡ atDue self from t ⌝ }
     {
-        if self.angle_within(from, t) {
-            vectors::settle(formula::at(self, from, t))
+        if angle_within(self.center, self.axis, self.radius, from, t) {
+            vectors::settle(spokes::at(self.center, self.axis, self.radius, from, t))
         } else {
             Vector::Refused(OUT_OF_RANGE)
         }
@@ -134,9 +96,19 @@ impl Arc {
     pub fn extended(self, from: Vec3, to: Vec3, bounds: Bounds) -> Widened
         ensures { λ r. ⌜ widenedDue r ≡ extendDue self from to bounds ⌝ }
     {
-        if self.ends_within(from, to) {
+        if ends_within(self.center, self.axis, self.radius, from, to) {
             if bounds.is_free() {
-                boxes::settle(extremes::extended(self, from, to, bounds))
+                boxes::settle(extremes::extended(
+                    self.center,
+                    self.axis,
+                    self.radius,
+                    from,
+                    to,
+                    CheckedBounds {
+                        refusal: 0,
+                        value: bounds,
+                    },
+                ))
             } else {
                 Widened::Refused(BAD_BOX_OR_SUMS)
             }
@@ -161,29 +133,23 @@ impl Arc {
         end.number
     }
 
-    fn chord_within(self, from: Vec3, to: Vec3, chord: f64) -> bool
-        ensures { λ r. ⌜ r ≡ (endsWithin self from to && within chord) ⌝ }
-    {
-        self.ends_within(from, to) & is_within(chord)
-    }
-
     // The points of the arc from one point to another for drawing, both ends excluded, at most `chord` off it (within 12 to 64 chords
     // a turn): three numbers each from the row's start. A refusal leaves the row as it was.
     pub fn write_inner_points(self, from: Vec3, to: Vec3, chord: f64, row: &mut [f64]) -> Written
         ensures { λ r. ⌜ Drawn (innerPointsDue self from to chord (length (now (row .entry)))) (now (row .entry)) (now (row .exit)) (r .refusal) (r .points) ⌝ }
     {
-        if self.chord_within(from, to, chord) {
+        if chord_within(self.center, self.axis, self.radius, from, to, chord) {
             if chord < 0.0 {
                 Written {
                     refusal: BAD_TOLERANCE,
                     points: 0,
                 }
             } else {
-                let c = inner::cut_up(self, from, to, chord);
+                let c = cut_up(self.center, self.axis, self.radius, from, to, chord);
                 let k = c.value;
                 let r = c.refusal;
                 if r == 0 {
-                    inner::write_points(self, from, k, &mut *row)
+                    write_points(self.center, self.axis, self.radius, from, k, &mut *row)
                 } else {
                     Written {
                         refusal: r,

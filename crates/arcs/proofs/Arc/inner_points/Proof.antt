@@ -1,6 +1,6 @@
 use Prim.Native.Nat.{_*_, _≤_}
 use lib.ListN.{length}
-use Rattle.arcs.specs.Inner.{innerPointsDue}
+use Rattle.arcs.specs.Entries.{innerPointsDue}
 use mathlib.Core.Path.{sym}
 use lib.Seq.{length-take-le}
 use Rattle.rows.specs.Laws.{part-taken, part-fits}

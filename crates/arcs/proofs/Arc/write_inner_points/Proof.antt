@@ -3,7 +3,8 @@ use borrow.Author.Needs.{needs}
 use Rattle.checked.specs.Checked.{Checked}
 use Rattle.checked.specs.Laws.{settled-none, settled-some}
 use Rattle.rows.specs.Laws.{drawn-refused}
-use Rattle.arcs.specs.Inner.{cutC, innerPointsDue}
+use Rattle.cuts.specs.Cuts.{cutC}
+use Rattle.arcs.specs.Entries.{innerPointsDue}
 use Rattle.arcs.proofs.Arc.write_inner_points.Statement.{statement}
 use Rattle.arcs.proofs.Arc.write_inner_points.Tie as tie
 
@@ -29,7 +30,7 @@ returns-2 c =
     let before = c .before .before .before .before .before .before .before in
     let start = before .before .before .before .before .args in
     let cut = c .before .before .before .before .before .before .cut-up .ensures in
-    let none : cutC (start .self) (start .from) (start .to) (start .chord) .refusal ≡ 0 = sym (cut .0) ∙ c .before .before .before .before .if3 .taken in
+    let none : cutC (start .self .center) (start .self .axis) (start .self .radius) (start .from) (start .to) (start .chord) .refusal ≡ 0 = sym (cut .0) ∙ c .before .before .before .before .if3 .taken in
     simp (before .if2 .left, sym (before .before .before .chord-within .ensures) ∙ before .before .if1 .taken, none, settled-none)
     (simp (cut .1) at (c .before .before .write-points .ensures))
 
@@ -39,7 +40,7 @@ returns-3 c =
     let before = c .before .before .before in
     let start = before .before .before .before .before .args in
     let cut = c .before .before .cut-up .ensures in
-    let due = settled-some (cutC (start .self) (start .from) (start .to) (start .chord) .refusal) (cutC (start .self) (start .from) (start .to) (start .chord) .value) (λ e. c .if3 .left (cut .0 ∙ e)) in
+    let due = settled-some (cutC (start .self .center) (start .self .axis) (start .self .radius) (start .from) (start .to) (start .chord) .refusal) (cutC (start .self .center) (start .self .axis) (start .self .radius) (start .from) (start .to) (start .chord) .value) (λ e. c .if3 .left (cut .0 ∙ e)) in
     simp (before .if2 .left, sym (before .before .before .chord-within .ensures) ∙ before .before .if1 .taken, due, cut .0) (drawn-refused _ _)
 
 returns-4 : tie.Need-returns-4

@@ -1,0 +1,3 @@
+pub mod Extremes
+pub mod Laws
+pub mod Sound

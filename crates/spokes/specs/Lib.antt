@@ -1,0 +1,2 @@
+pub mod Spokes
+pub mod Laws
