@@ -17,7 +17,7 @@ use Rattle.records.specs.Records.{vec2, vec3At}
 -- ---- records from arrays
 -- centre, axis, radius
 abbrev pub arc : List Float → Arc
-arc l = record { center = vec3At l 0 1 2; axis = vec3At l 3 4 5; radius = getD l 6 nan }
+arc l = record { center = vec3At l 0; axis = vec3At l 3; radius = getD l 6 nan }
 
 -- its centre, and the way beside it
 abbrev pub profileArc : List Float → Bool → ProfileArc
@@ -26,13 +26,13 @@ profileArc l ccw = record { center = vec2 l; ccw = ccw }
 -- the rotation row by row, then the shift
 abbrev pub rigid : List Float → Rigid
 rigid l = record {
-  rot = record { x = vec3At l 0 1 2; y = vec3At l 3 4 5; z = vec3At l 6 7 8 };
-  shift = vec3At l 9 10 11;
+  rot = record { x = vec3At l 0; y = vec3At l 3; z = vec3At l 6 };
+  shift = vec3At l 9;
 }
 
 -- low corner, high corner
 abbrev pub bounds : List Float → Bounds
-bounds l = record { low = vec3At l 0 1 2; high = vec3At l 3 4 5 }
+bounds l = record { low = vec3At l 0; high = vec3At l 3 }
 
 -- ---- records as numbers, in the same order
 abbrev pub ofArc : Arc → List Float

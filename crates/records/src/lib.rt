@@ -10,6 +10,11 @@ use vectors::Vec2;
 use vectors::Vec3;
 use vectors::Vector;
 
+// The answer to a tag that nobody knows, and the answer where there is no result to give.
+pub const UNKNOWN_TAG: u32 = 254;
+
+pub const NONE: u32 = 255;
+
 pub fn vec2_of(a: &[f64; 2]) -> Vec2
     ensures { λ r. ⌜ r ≡ vec2 (now (a .entry)) ⌝ }
 {

@@ -1,0 +1,67 @@
+// Waves, meets and traces.
+ghost use mathlib.Core.Path.{_≡_};
+ghost use Rattle.waves.specs.Entries as Waves;
+ghost use Rattle.meets.specs.Entries as Meets;
+ghost use Rattle.traces.specs.Traces as Traces;
+ghost use Rattle.records.specs.Records.{alone, numberOf, after, tagDue};
+ghost use Rattle.trace_records.specs.Records.{wave, isTurn, meet, isTrace, traceOf, ofJet, ofSpan, ofPoints, someDue};
+use records::UNKNOWN_TAG;
+use trace_records::is_trace;
+use trace_records::is_turn;
+use trace_records::meet_of;
+use trace_records::store_height;
+use trace_records::store_jet;
+use trace_records::store_points;
+use trace_records::store_span;
+use trace_records::trace_of;
+use trace_records::wave_of;
+
+#[no_mangle]
+pub extern "C" fn jr_wave_at(w: &[f64; 3], u: f64, n: f64, out: &mut [f64; 3]) -> u32
+    ensures number { λ r. ⌜ r ≡ numberOf (Waves.atDue (wave (now (w .entry))) u n) ⌝ }
+    ensures out { λ _. ⌜ now (out .exit) ≡ after ofJet (now (out .entry)) (Waves.atDue (wave (now (w .entry))) u n) ⌝ }
+{
+    let c = wave_of(w);
+    store_jet(c.at(u, n), out)
+}
+
+#[no_mangle]
+pub extern "C" fn jr_wave_range(w: &[f64; 3], u0: f64, u1: f64, n: f64, out: &mut [f64; 2]) -> u32
+    ensures number { λ r. ⌜ r ≡ numberOf (Waves.rangeDue (wave (now (w .entry))) u0 u1 n) ⌝ }
+    ensures out { λ _. ⌜ now (out .exit) ≡ after ofSpan (now (out .entry)) (Waves.rangeDue (wave (now (w .entry))) u0 u1 n) ⌝ }
+{
+    let c = wave_of(w);
+    store_span(c.range(u0, u1, n), out)
+}
+
+#[no_mangle]
+pub extern "C" fn jr_meet_point(
+    m: &[f64; 10],
+    turn: u32,
+    phi: f64,
+    n: f64,
+    out: &mut [f64; 9],
+) -> u32
+    ensures number { λ r. ⌜ r ≡ numberOf (tagDue (isTurn turn) (Meets.pointDue (meet (now (m .entry)) turn) phi n)) ⌝ }
+    ensures out { λ _. ⌜ now (out .exit) ≡ after ofPoints (now (out .entry)) (tagDue (isTurn turn) (Meets.pointDue (meet (now (m .entry)) turn) phi n)) ⌝ }
+{
+    if is_turn(turn) {
+        let c = meet_of(m, turn);
+        store_points(c.point(phi, n), out)
+    } else {
+        UNKNOWN_TAG
+    }
+}
+
+#[no_mangle]
+pub extern "C" fn jr_trace_v(t: &[f64; 10], kind: u32, u: f64, n: f64, out: &mut [f64; 1]) -> u32
+    ensures number { λ r. ⌜ r ≡ numberOf (tagDue (isTrace kind) (someDue (Traces.vDue (traceOf (now (t .entry)) kind) u n))) ⌝ }
+    ensures out { λ _. ⌜ now (out .exit) ≡ after alone (now (out .entry)) (tagDue (isTrace kind) (someDue (Traces.vDue (traceOf (now (t .entry)) kind) u n))) ⌝ }
+{
+    if is_trace(kind) {
+        let c = trace_of(t, kind);
+        store_height(c.v(u, n), out)
+    } else {
+        UNKNOWN_TAG
+    }
+}
