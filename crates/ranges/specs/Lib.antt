@@ -1,0 +1,3 @@
+pub mod Arctangents
+pub mod Quadrants
+pub mod Sines

@@ -1,0 +1,1 @@
+// Theorems only: where the values of the elementary functions lie. See specs/.
