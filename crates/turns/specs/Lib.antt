@@ -1,0 +1,6 @@
+pub mod Sizes
+pub mod Squares
+pub mod Turns
+pub mod Same
+pub mod Points
+pub mod At
