@@ -1,3 +1,4 @@
 pub mod Arctangents
 pub mod Quadrants
+pub mod Fitting
 pub mod Sines
