@@ -45,7 +45,8 @@ impl Trial {
         self.port.0 = (e.port)(&self.input, &mut self.port.1);
         let (port, second) = (&self.port, &self.second);
         if second.0 != 0 {
-            // Refused: the number, and what was lent as it was, to the last bit. What is absent is so in the Rust too.
+            // Refused: the number, and what was lent as it was, to the last bit. What is absent is
+            // so in the Rust too.
             let rust_well = second.0 != ABSENT || (e.rust)(&self.input, &mut self.rust) == ABSENT;
             let port_well = port.0 == second.0 && same_bits(&port.1, &second.1);
             return if port_well && rust_well { Verdict::RefusedAlike } else { Verdict::Different };
@@ -83,7 +84,8 @@ pub fn drawer(e: &Entry, class: &str, seed: u64) -> Draw {
     Draw::new(mark)
 }
 
-/// Calls of an entry where `count` is asked for: of a dear one, whose full run is shorter, fewer in proportion.
+/// Calls of an entry where `count` is asked for: of a dear one, whose full run is shorter, fewer in
+/// proportion.
 fn calls(e: &Entry, count: Option<u64>) -> u64 {
     const FULL: u64 = 5_000_000;
     let scaled = |count: u64| (count as u128 * e.full.min(FULL) as u128).div_ceil(FULL as u128) as u64;
@@ -130,7 +132,8 @@ pub fn compare(entries: &[&Entry], count: Option<u64>, seed: u64) -> bool {
     different == 0
 }
 
-/// The second reading beside the Rust, with no port: the same bits where no refusal is due, and what is refused by which number.
+/// The second reading beside the Rust, with no port: the same bits where no refusal is due, and
+/// what is refused by which number.
 pub fn second(entries: &[&Entry], count: Option<u64>, seed: u64) -> bool {
     println!("{:<24} {:<42} {:>10} {:>10} {:>9}  {}", "NAME", "class", "tried", "accepted", "different", "refused by number");
     let mut different = 0;

@@ -1,4 +1,5 @@
-//! Curves of edges (an arc, or a piece at a radius: 27 numbers and three tags) and surfaces of faces (26 numbers, and tags).
+//! Curves of edges (an arc, or a piece at a radius: 27 numbers and three tags) and surfaces of
+//! faces (26 numbers, and tags).
 
 use datum_math::Vec2;
 
@@ -6,7 +7,7 @@ use crate::arcs::{self, Kind};
 use crate::classes;
 use crate::draw::{Draw, SPECIAL};
 use crate::entry::{Entry, at, entry, out};
-use crate::pieces::{self, chord};
+use crate::pieces::{self, NO_TAGS, chord, tag_as_number};
 use crate::shapes::{self, Shape, TIMED, put, shapes, v};
 
 unsafe extern "C" {
@@ -284,7 +285,8 @@ pub mod second {
         path.due()
     }
 
-    /// The ends and extreme points of the two arcs about the axis at the two ends of the box along v.
+    /// The ends and extreme points of the two arcs about the axis at the two ends of the box along
+    /// v.
     fn extremes(piece: &Piece, radius: Num, path: &mut Path) -> Vec<[f64; 3]> {
         let [u, v] = piece.uv_box(path);
         let mut taken = Vec::new();
@@ -596,7 +598,8 @@ fn list(d: &mut Draw, i: &mut [f64], any: bool) {
 
 type BoxCall = fn(&[f64], &mut [f64; 6]) -> u32;
 
-/// What each call answers, the box after all of them, and the box after the same calls the other way round.
+/// What each call answers, the box after all of them, and the box after the same calls the other
+/// way round.
 fn called(i: &[f64], o: &mut [f64], call: BoxCall) -> u32 {
     let handed: &[f64; 6] = at(i, EDGES * EDGE);
     let mut corners = *handed;
@@ -633,7 +636,8 @@ fn rust_box_call(i: &[f64], corners: &mut [f64; 6]) -> u32 {
     number
 }
 
-/// The least and the greatest of each edge's own box, from the empty one, and of the box handed in: no order of calls.
+/// The least and the greatest of each edge's own box, from the empty one, and of the box handed in:
+/// no order of calls.
 fn least_and_greatest(i: &[f64], o: &mut [f64]) -> u32 {
     let (low, high) = (f64::INFINITY, f64::NEG_INFINITY);
     let handed: &[f64; 6] = at(i, EDGES * EDGE);
@@ -838,9 +842,9 @@ pub const ENTRIES: &[Entry] = &[
     Entry {
         whole_outputs: &[27, 28],
         ..curve_entry(entry!(curve_reversed, jr_curve_reversed, CURVE, 29, FULL, few_edges!(alone), |f, i, o| {
-            let mut tags = [77, 77];
+            let mut tags = NO_TAGS;
             let refusal = f(at(i, 0), i[27] as u32, i[28] as u32, i[29] as u32, out(o), &mut tags);
-            o[27..].copy_from_slice(&tags.map(|tag| tag as f64));
+            o[27..].copy_from_slice(&tags.map(tag_as_number));
             refusal
         }))
     },

@@ -1,4 +1,5 @@
-//! What is compared: an entry of the port beside the Rust's function and the second reading of its refusals.
+//! What is compared: an entry of the port beside the Rust's function and the second reading of its
+//! refusals.
 
 use crate::draw::Draw;
 
@@ -19,7 +20,8 @@ pub struct Entry {
     pub full: u64,
     /// The outputs are least and greatest numbers: the Rust leaves a zero's sign open.
     pub zeros_alike: bool,
-    /// Inputs that are flags, set where they are above 0, and inputs and outputs that are whole numbers.
+    /// Inputs that are flags, set where they are above 0, and inputs and outputs that are whole
+    /// numbers.
     pub flags: &'static [usize],
     pub whole_inputs: &'static [usize],
     pub whole_outputs: &'static [usize],
@@ -33,12 +35,13 @@ pub struct Entry {
     pub port: Call,
     /// The unchanged Rust, which refuses nothing.
     pub rust: Call,
-    /// The refusal due and, where there is none, the same formulas over numbers that carry what they met.
+    /// The refusal due and, where there is none, the same formulas over numbers that carry what
+    /// they met.
     pub second: Call,
 }
 
-/// An entry from three functions of one signature and the way to call it: `|f, i, o| ..` takes the inputs from
-/// `i`, leaves the outputs in `o` and gives the refusal number.
+/// An entry from three functions of one signature and the way to call it: `|f, i, o| ..` takes the
+/// inputs from `i`, leaves the outputs in `o` and gives the refusal number.
 macro_rules! entry {
     ($name:ident, $port:ident, $takes:expr, $gives:expr, $full:expr, $classes:expr, |$f:ident, $i:ident, $o:ident| $call:expr) => {
         crate::entry::Entry {
@@ -72,11 +75,13 @@ macro_rules! entry {
 }
 pub(crate) use entry;
 
-/// An unknown tag, and no such thing (`Trace::v` of a hole's meet): answers in a refusal's place that are none.
+/// An unknown tag, and no such thing (`Trace::v` of a hole's meet): answers in a refusal's place
+/// that are none.
 pub const UNKNOWN: u32 = 254;
 pub const ABSENT: u32 = 255;
 
-/// Fills what a call has not written yet, so that a write is seen. No result of ours is likely to be this number.
+/// Fills what a call has not written yet, so that a write is seen. No result of ours is likely to
+/// be this number.
 pub const UNTOUCHED: f64 = f64::from_bits(0x8123_4567_89ab_cdef);
 
 /// The N inputs from the k-th on.

@@ -1,5 +1,5 @@
-//! Integrals: frames of cones, the correction of a plane face for an arc, faces on cylinders and cones, walls. Eight sums: six_v, moment,
-//! area, area vector.
+//! Integrals: frames of cones, the correction of a plane face for an arc, faces on cylinders and
+//! cones, walls. Eight sums: six_v, moment, area, area vector.
 
 use crate::classes::{self, NUMBERS};
 use crate::draw::{Draw, SPECIAL};
@@ -64,7 +64,8 @@ pub mod rust {
         0
     }
 
-    /// One path from sums of 0, by the Rust's whole `revolution`: 0 added to a sum that began at 0 is that sum, never −0.
+    /// One path from sums of 0, by the Rust's whole `revolution`: 0 added to a sum that began at 0
+    /// is that sum, never −0.
     fn from_nothing(c: &[f64; 8], o: &[f64; 3], path: Path, running: &mut [f64; 8]) -> u32 {
         let mut s = Integrals::default();
         curve::revolution(&mut s, &cone(c, true), std::iter::once(path), v(o));
@@ -75,8 +76,8 @@ pub mod rust {
         running.iter().all(|x| x.to_bits() == 0)
     }
 
-    // Onto other sums the Rust adds nothing by itself: there the second reading stands in, and the whole `revolution` is compared
-    // for faces of several paths.
+    // Onto other sums the Rust adds nothing by itself: there the second reading stands in, and the
+    // whole `revolution` is compared for faces of several paths.
     #[inline(never)]
     pub fn revolution_add_arc(c: &[f64; 8], o: &[f64; 3], a: &[f64; 7], u: &[f64; 3], w: &[f64; 3], running: &mut [f64; 8]) -> u32 {
         if !is_nothing(running) {
@@ -263,7 +264,8 @@ pub mod second {
             [r * self.stretch, num(2.0) * r * height, m.x, m.y, m.z, r * nv.x, r * nv.y, r * nv.z]
         }
 
-        /// A path as angle, place along the axis and the angle's derivative, over pieces; what it takes off the sums.
+        /// A path as angle, place along the axis and the angle's derivative, over pieces; what it
+        /// takes off the sums.
         fn along(&self, pieces: u64, path: impl Fn(Num) -> [Num; 3], sum: &mut [Num; 8]) {
             let h = num(1.0) / num(pieces as f64);
             for i in 0..pieces {
@@ -775,7 +777,8 @@ fn face(d: &mut Draw, i: &mut [f64], any: bool) {
     }
 }
 
-/// The calls on a face, and the way through them: open, a call for each path, close. The sums are lent at the end.
+/// The calls on a face, and the way through them: open, a call for each path, close. The sums are
+/// lent at the end.
 struct Calls {
     open: fn(&[f64; 8], &[f64; 3], &mut [f64; 8]) -> u32,
     add_arc: fn(&[f64; 8], &[f64; 3], &[f64; 7], &[f64; 3], &[f64; 3], &mut [f64; 8]) -> u32,

@@ -3,7 +3,7 @@
 use std::f64::consts::{FRAC_PI_4, PI, TAU};
 
 use crate::draw::{Draw, SPECIAL};
-use crate::entry::{Entry, at, entry, out};
+use crate::entry::{Entry, UNTOUCHED, at, entry, out};
 use crate::shapes::{self, PIECE, Shape, TIMED, shapes};
 
 unsafe extern "C" {
@@ -190,8 +190,8 @@ pub mod second {
             [scaled([u, q.z]), scaled([n * th1 * k, q1.z * k]), scaled([n * th2 * k * k, q2.z * k * k])]
         }
 
-        /// All samples, then the halvings, window by window. Of a sample in between only the derivative is read, and at a
-        /// halving only that along the window's axis.
+        /// All samples, then the halvings, window by window. Of a sample in between only the
+        /// derivative is read, and at a halving only that along the window's axis.
         fn meet_box(&self, m: &Meet, path: &mut Path) -> [[Num; 2]; 2] {
             let place = |k: usize| num(k as f64 / 64.0);
             let samples: [[Vec2; 3]; 65] = std::array::from_fn(|k| self.meet_at(m, place(k)));
@@ -215,7 +215,8 @@ pub mod second {
                     for _ in 0..60 {
                         let mid = num(0.5) * (low + high);
                         let rises = path.reads(slope(&self.meet_at(m, mid), axis)) > 0.0;
-                        // The end towards which the slope has the middle's sign comes to the middle.
+                        // The end towards which the slope has the middle's sign comes to the
+                        // middle.
                         *(if rises == after { &mut high } else { &mut low }) = mid;
                     }
                     let p = self.meet_at(m, num(0.5) * (low + high))[0];
@@ -326,7 +327,8 @@ pub mod second {
             v * (num(1.0) / v.dot(v).sqrt())
         }
 
-        /// The direction of a hole's edge: along the level line, the way that the piece runs at its middle.
+        /// The direction of a hole's edge: along the level line, the way that the piece runs at its
+        /// middle.
         fn across(&self, m: &Meet, p: Vec2, path: &mut Path) -> Vec2 {
             let n = self.dev.neutral;
             let gradient = |p: Vec2| {
@@ -573,7 +575,8 @@ fn with_point(d: &mut Draw, i: &mut [f64], shape: Shape) {
     spoil(d, i, shape);
 }
 
-/// About as many pieces as are accepted: straight, so that the length over the neutral radius alone counts.
+/// About as many pieces as are accepted: straight, so that the length over the neutral radius alone
+/// counts.
 pub fn many_pieces(d: &mut Draw, i: &mut [f64], each: f64) {
     i[..PIECE].copy_from_slice(&shapes::piece(d, Shape::Straight));
     i[9] = d.magnitude(-8, 3).abs();
@@ -634,6 +637,14 @@ fn count(refusal: u32, n: [u64; 1], o: &mut [f64]) -> u32 {
 }
 
 const NO_COUNT: [u64; 1] = [77];
+
+/// Tags before a call; where they are not written, they count as untouched.
+pub const NO_TAGS: [u32; 2] = [77, 77];
+
+pub fn tag_as_number(tag: u32) -> f64 {
+    if tag == NO_TAGS[0] { UNTOUCHED } else { tag as f64 }
+}
+
 const TAGS: &[usize] = &[26, 27];
 const FULL: u64 = 5_000_000;
 const DEAR: u64 = 1_000_000;
@@ -659,9 +670,9 @@ pub const ENTRIES: &[Entry] = &[
     Entry {
         whole_outputs: TAGS,
         ..tagged(entry!(piece_reversed, jr_piece_reversed, PIECE, PIECE, FULL, REVERSED, |f, i, o| {
-            let mut tags = [77, 77];
+            let mut tags = NO_TAGS;
             let refusal = f(at(i, 0), i[26] as u32, i[27] as u32, out(o), &mut tags);
-            o[26..].copy_from_slice(&tags.map(|tag| tag as f64));
+            o[26..].copy_from_slice(&tags.map(tag_as_number));
             refusal
         }))
     },

@@ -1,4 +1,5 @@
-//! A list of the Rust's answers, for a program that replays it with no Rust at hand. scripts/make_replay says what a line holds.
+//! A list of the Rust's answers, for a program that replays it with no Rust at hand.
+//! scripts/make_replay says what a line holds.
 
 use crate::compare::{all_alike, drawer};
 use crate::entry::{ABSENT, Entry, UNKNOWN, UNTOUCHED};
@@ -15,8 +16,8 @@ fn taken_field(e: &Entry, k: usize, x: f64) -> u64 {
 /// What a call leaves as it was is 0.
 fn given_field(e: &Entry, k: usize, x: f64) -> u64 {
     match x {
-        _ if e.whole_outputs.contains(&k) => x as u64,
         _ if x.to_bits() == UNTOUCHED.to_bits() => 0,
+        _ if e.whole_outputs.contains(&k) => x as u64,
         _ if x.is_nan() => f64::NAN.to_bits(),
         _ => x.to_bits(),
     }
@@ -36,7 +37,8 @@ fn calls(e: &Entry, each: u64) -> u64 {
     if numbers <= 180 { each } else { (each * 90 / numbers).max(2) }
 }
 
-/// `each` calls of each class of each entry. A port in Rattle knows no unknown tag, so these are left out; none is 99.
+/// `each` calls of each class of each entry. A port in Rattle knows no unknown tag, so these are
+/// left out; none is 99.
 pub fn replay(entries: &[&Entry], each: u64, seed: u64) -> bool {
     for (k, e) in entries.iter().enumerate().filter(|(_, e)| e.replayed) {
         for (class, draw) in e.classes {

@@ -1,4 +1,5 @@
-//! Rolled sheets and what is cut into them: developments, waves, meets, pieces, as rows of numbers and tags.
+//! Rolled sheets and what is cut into them: developments, waves, meets, pieces, as rows of numbers
+//! and tags.
 
 use std::f64::consts::{FRAC_PI_2, PI, TAU};
 
@@ -75,7 +76,8 @@ pub fn development(d: &mut Draw, rolls: Rolls) -> [f64; 10] {
     i
 }
 
-/// All numbers of a row that begins with a development, for the classes that know no shape; the neutral radius is above 0.
+/// All numbers of a row that begins with a development, for the classes that know no shape; the
+/// neutral radius is above 0.
 pub fn numbers(d: &mut Draw, i: &mut [f64], rolls: Rolls) {
     match rolls {
         Rolls::Whole => classes::whole(d, i),
@@ -194,7 +196,8 @@ fn beside(a: Vec3, b: Vec3) -> Vec3 {
 
 const Z: Vec3 = Vec3::new(0.0, 0.0, 1.0);
 
-/// The main pipe that a branch of radius `n` meets, without turn: the branch runs along or against z.
+/// The main pipe that a branch of radius `n` meets, without turn: the branch runs along or against
+/// z.
 pub fn branch(d: &mut Draw, n: f64, fit: Fit) -> [f64; 10] {
     let (offset, main) = fitted(d, n, fit);
     let axis = axis_for(d, fit);
@@ -426,7 +429,8 @@ fn any_shape(d: &mut Draw, i: &mut [f64; PIECE]) {
     }
 }
 
-/// A realistic shape on a neutral radius at the ends of what is accepted, its angles at their limit.
+/// A realistic shape on a neutral radius at the ends of what is accepted, its angles at their
+/// limit.
 fn at_limits(d: &mut Draw, i: &mut [f64; PIECE]) {
     any_shape(d, i);
     if d.below(3) == 0 {
@@ -434,7 +438,8 @@ fn at_limits(d: &mut Draw, i: &mut [f64; PIECE]) {
         let scale = limit_radius(d) / i[9];
         let lengths: &[usize] = &[0, 1, 2, 9, 10, 11, 12, 13, 14, 15, 16, 17, 18, 22];
         lengths.iter().for_each(|k| i[*k] *= scale);
-        // A wave's three numbers are all lengths; of a meet 19 to 21 is the axis, and `own` a length where there is a turn.
+        // A wave's three numbers are all lengths; of a meet 19 to 21 is the axis, and `own` a
+        // length where there is a turn.
         if i[TRACE] == 3.0 {
             i[23] *= scale;
         }
@@ -529,8 +534,8 @@ pub fn piece(d: &mut Draw, shape: Shape) -> [f64; PIECE] {
     i
 }
 
-/// The classes of an entry whose inputs `$draw` draws for a shape, or for a case that holds one, and more classes; the first five
-/// are timed.
+/// The classes of an entry whose inputs `$draw` draws for a shape, or for a case that holds one,
+/// and more classes; the first five are timed.
 macro_rules! shapes {
     ($draw:ident $(, $case:path)? $(; $more:expr)*) => {{
         use crate::shapes::Shape;

@@ -1,4 +1,5 @@
-//! Waves (three numbers), meets (eight, and two angles where there is a turn) and traces, with the neutral radius beside them.
+//! Waves (three numbers), meets (eight, and two angles where there is a turn) and traces, with the
+//! neutral radius beside them.
 
 use std::f64::consts::{FRAC_PI_2, PI};
 

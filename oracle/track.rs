@@ -1,8 +1,10 @@
-//! A second reading of the refusals by the arithmetic: numbers that carry the first refusal they depend on.
+//! A second reading of the refusals by the arithmetic: numbers that carry the first refusal they
+//! depend on.
 //!
-//! A number is met by a refusal where it is produced: by 9 if it is not finite, by 8 as the sine or cosine of an angle
-//! too large, by 10 as a count too large. What is worked out from it carries that on; of two, the one met earlier. A
-//! comparison that decides the way goes into the `Path`, which the results of that way depend on.
+//! A number is met by a refusal where it is produced: by 9 if it is not finite, by 8 as the sine or
+//! cosine of an angle too large, by 10 as a count too large. What is worked out from it carries
+//! that on; of two, the one met earlier. A comparison that decides the way goes into the `Path`,
+//! which the results of that way depend on.
 
 use std::cell::Cell;
 use std::ops::{Add, Div, Mul, Neg, Sub};
@@ -90,7 +92,8 @@ impl Num {
         produced(libm::hypot(self.value, y.value), self.met.min(y.met))
     }
 
-    /// Of two zeros of unlike sign the negative one. What either has met, the lesser one has: a comparison reads both.
+    /// Of two zeros of unlike sign the negative one. What either has met, the lesser one has: a
+    /// comparison reads both.
     pub fn least(self, o: Num) -> Num {
         let first = self.value < o.value || (self.value == o.value && self.value.is_sign_negative());
         Num { value: if first { self.value } else { o.value }, met: self.met.min(o.met) }
