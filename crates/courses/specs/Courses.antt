@@ -5,12 +5,15 @@ use Rattle.checked.specs.Numbers.{one, tau}
 use Rattle.angles.specs.Angles.{atan2C}
 use Rattle.rounding.specs.Whole.{round-away}
 use Rattle.vectors.specs.declared.Vec2.{Vec2}
+use Rattle.vectors.specs.declared.Vec3.{Vec3}
 use Rattle.vectors.specs.Vectors.{plane}
+use Rattle.pipes.specs.declared.Reached.{Reached}
 use Rattle.pipes.specs.Pipes.{reachC}
 use Rattle.reaches.specs.Reaches as reaches
 use Rattle.meets.specs.declared.Turn.{Turn}
 use Rattle.meets.specs.declared.Turn.the-variants as turn
 use Rattle.courses.specs.declared.Course.{Course}
+use Rattle.courses.specs.declared.Place.{Place}
 
 -- how fast the angle runs
 abbrev pub rateBy : Turn → Course → Checked Float
@@ -27,6 +30,18 @@ angleBy (turn.Angles f g) c t = num f ⊗ (num one ⊖ num t) ⊕ num g ⊗ num 
 
 unfoldable pub angleC : Course → Float → Checked Float
 angleC c t = angleBy (c .turn) c t
+
+-- the generatrix at t, up to the cylinder met
+unfoldable pub reachedC : Course → Float → Checked Reached
+reachedC c t = do
+  phi ← angleC c t
+  reachC (c .pipe) phi
+
+-- where it ends, in space
+unfoldable pub spotC : Course → Float → Checked Vec3
+spotC c t = do
+  phi ← angleC c t
+  reaches.pointC (c .pipe) phi
 
 -- ---- the first derivative in t
 -- of v
@@ -69,17 +84,20 @@ ownPointC c t = do
   z ← reaches.heightC (c .pipe) phi
   given (plane u z)
 
--- u within half a turn of the piece's first
-unfoldable pub holePointC : Course → Float → Checked Vec2
-holePointC c t = do
-  phi ← angleC c t
-  q ← reaches.pointC (c .pipe) phi
+-- u of a point in space, within half a turn of the piece's first
+unfoldable pub nearC : Course → Vec3 → Checked Float
+nearC c q = do
   turn' ← num (c .neutral) ⊗ num tau
   u ← num (c .neutral) ⊗ atan2C (num (q .y)) (num (q .x))
   turns ← (num (c .from) ⊖ num u) ⊘ num turn'
   k ← finite (round-away binary64 turns)
-  near ← num u ⊕ num turn' ⊗ num k
-  given (plane near (q .z))
+  num u ⊕ num turn' ⊗ num k
+
+unfoldable pub holePointC : Course → Float → Checked Vec2
+holePointC c t = do
+  q ← spotC c t
+  u ← nearC c q
+  given (plane u (q .z))
 
 abbrev pub pointBy : Turn → Course → Float → Checked Vec2
 pointBy turn.Without c t = ownPointC c t
@@ -87,3 +105,11 @@ pointBy (turn.Angles f g) c t = holePointC c t
 
 unfoldable pub pointC : Course → Float → Checked Vec2
 pointC c t = pointBy (c .turn) c t
+
+-- ---- the point and its derivative. The rate is tried before the sine, as the Rust's order has it; all after the sine is refused by one number.
+unfoldable pub atC : Course → Float → Checked Place
+atC c t = do
+  du ← slopeUC c t
+  dv ← slopeVC c t
+  p ← pointC c t
+  given (record { p = p; d = plane du dv })

@@ -1,19 +1,33 @@
 // A piece of a development that follows a meet, on numbers of any size: where it is at t, and how it moves. A call works out what its caller
 // reads, and no more.
 ghost use mathlib.Core.Path.{_≡_};
-ghost use Rattle.courses.specs.Courses.{rateC, angleC, slopeVC, aroundC, slopeUC, ownPointC, holePointC, pointC};
+ghost use Rattle.pipes.specs.Pipes.{reachC};
+ghost use Rattle.reaches.specs.Reaches.{speedC};
+ghost use Rattle.courses.specs.Courses.{rateC, angleC, reachedC, spotC, slopeVC, aroundC, slopeUC, nearC, pointC, atC};
+ghost use Rattle.courses.specs.Laws.{placedC};
 use arctangent::atan2;
-use checked::CheckedNumber;
 use checked::TAU;
 use checked::earlier;
 use checked::note;
+use circle::sincos;
+use directions::formula::across;
 use meets::Turn;
+use pipes::CheckedReached;
 use pipes::Pipe;
-use pipes::reach;
-use reaches::height;
-use reaches::speed_at;
+use pipes::Quadratic;
+use pipes::Reached;
+use pipes::lesser;
+use reaches::CheckedSpeed;
+use reaches::Speed;
 use rounding::round;
+use rounding::sqrt;
 use vectors::Vec2;
+use vectors::Vec3;
+use vectors::formula::dot;
+use vectors::formula::minus;
+use vectors::formula::noted;
+use vectors::formula::plus;
+use vectors::formula::times;
 
 // The piece's first and last u, the neutral radius, the angles of a hole, and the pipe, worked out once.
 pub struct Course {
@@ -24,13 +38,35 @@ pub struct Course {
     pub pipe: Pipe,
 }
 
+// How fast u and v run, and the point in space, each with the refusal met on the way to it; that of the point is up to the cylinder met,
+// and its numbers are for the caller to note.
+pub struct Pace {
+    pub u: f64,
+    pub ru: u8,
+    pub v: f64,
+    pub rv: u8,
+    pub q: Vec3,
+    pub rq: u8,
+}
+
 pub struct CheckedVec2 {
     pub value: Vec2,
     pub refusal: u8,
 }
 
+// A point of a piece, and its derivative.
+pub struct Place {
+    pub p: Vec2,
+    pub d: Vec2,
+}
+
+pub struct CheckedPlace {
+    pub value: Place,
+    pub refusal: u8,
+}
+
 // How fast the angle runs.
-fn rate(c: Course) -> f64
+pub fn rate(c: Course) -> f64
     ensures { λ r. ⌜ r ≡ rateC c .value ⌝ }
 {
     let t = c.turn;
@@ -41,7 +77,7 @@ fn rate(c: Course) -> f64
 }
 
 // The angle at t.
-fn angle(c: Course, t: f64) -> f64
+pub fn angle(c: Course, t: f64) -> f64
     ensures { λ r. ⌜ r ≡ angleC c t .value ⌝ }
 {
     let k = c.turn;
@@ -51,104 +87,153 @@ fn angle(c: Course, t: f64) -> f64
     }
 }
 
-// How fast v runs at t.
-pub fn slope_v(c: Course, t: f64) -> CheckedNumber
-    ensures refusal { λ r. ⌜ r .refusal ≡ slopeVC c t .refusal ⌝ }
-    ensures value { λ r. ⌜ r .value ≡ slopeVC c t .value ⌝ }
+// `reach` of `pipes` and `speed_at` of `reaches` once more: with one call each they become a part of `moved`, and their many numbers stay in
+// registers.
+fn reach_here(p: Pipe, phi: f64) -> CheckedReached
+    ensures refusal { λ r. ⌜ r .refusal ≡ reachC p phi .refusal ⌝ }
+    ensures value { λ r. ⌜ r .value ≡ reachC p phi .value ⌝ }
 {
-    let k = rate(c);
-    let phi = angle(c, t);
-    let p = c.pipe;
-    let x = reach(p, phi);
-    let h = x.value;
-    let v = speed_at(p, h);
-    let d = (v.value.d1.z + p.a.z * v.value.t1) * k;
-    CheckedNumber {
-        refusal: note(
-            earlier(note(note(0, k), phi), earlier(x.refusal, v.refusal)),
-            d,
-        ),
-        value: d,
+    let x = sincos(phi);
+    let around = plus(times(p.e1, x.cos), times(p.e2, x.sin));
+    let p0 = plus(p.o, times(around, p.r));
+    let w = across(p.ma, minus(p0, p.mo));
+    let af = across(p.ma, p.a);
+    let aa = dot(af, af);
+    let b = dot(w, af);
+    let cc = dot(w, w) - p.mr * p.mr;
+    let root = sqrt(b * b - aa * cc);
+    let t = lesser(Quadratic {
+        aa: aa,
+        b: b,
+        cc: cc,
+        root: root,
+    });
+    CheckedReached {
+        refusal: earlier(note(x.refusal, root), t.refusal),
+        value: Reached {
+            s: x.sin,
+            c: x.cos,
+            around: around,
+            p0: p0,
+            w: w,
+            af: af,
+            aa: aa,
+            root: root,
+            t: t.value,
+        },
     }
 }
 
-// How fast u runs at t along a hole.
-fn around(c: Course, t: f64) -> CheckedNumber
-    ensures refusal { λ r. ⌜ r .refusal ≡ aroundC c t .refusal ⌝ }
-    ensures value { λ r. ⌜ r .value ≡ aroundC c t .value ⌝ }
+fn speed_here(p: Pipe, h: Reached) -> CheckedSpeed
+    ensures refusal { λ r. ⌜ r .refusal ≡ speedC p h .refusal ⌝ }
+    ensures value { λ r. ⌜ r .value ≡ speedC p h .value ⌝ }
+{
+    let d1 = times(minus(times(p.e2, h.c), times(p.e1, h.s)), p.r);
+    let w1 = across(p.ma, d1);
+    let b1 = dot(w1, h.af);
+    let c1 = 2.0 * dot(h.w, w1);
+    let t1 = (b1 * h.t + 0.5 * c1) / h.root;
+    CheckedSpeed {
+        refusal: note(0, t1),
+        value: Speed {
+            d1: d1,
+            w1: w1,
+            b1: b1,
+            t1: t1,
+        },
+    }
+}
+
+// How fast u runs at t along a hole, how fast v runs, and where the generatrix ends.
+fn moved(c: Course, t: f64) -> Pace
+    ensures ru { λ r. ⌜ r .ru ≡ aroundC c t .refusal ⌝ }
+    ensures u { λ r. ⌜ r .u ≡ aroundC c t .value ⌝ }
+    ensures rv { λ r. ⌜ r .rv ≡ slopeVC c t .refusal ⌝ }
+    ensures v { λ r. ⌜ r .v ≡ slopeVC c t .value ⌝ }
+    ensures rq { λ r. ⌜ r .rq ≡ reachedC c t .refusal ⌝ }
+    ensures q { λ r. ⌜ r .q ≡ spotC c t .value ⌝ }
 {
     let k = rate(c);
     let phi = angle(c, t);
     let p = c.pipe;
-    let x = reach(p, phi);
+    let x = reach_here(p, phi);
     let h = x.value;
-    let v = speed_at(p, h);
-    let qx = h.p0.x + p.a.x * h.t;
-    let qy = h.p0.y + p.a.y * h.t;
+    let v = speed_here(p, h);
+    let d = (v.value.d1.z + p.a.z * v.value.t1) * k;
+    let q = plus(h.p0, times(p.a, h.t));
     let q1x = v.value.d1.x + p.a.x * v.value.t1;
     let q1y = v.value.d1.y + p.a.y * v.value.t1;
-    let r2 = qx * qx + qy * qy;
-    let d = c.neutral * ((qx * q1y - qy * q1x) / r2) * k;
-    CheckedNumber {
-        refusal: note(
-            note(
-                earlier(note(note(0, k), phi), earlier(x.refusal, v.refusal)),
-                r2,
-            ),
-            d,
-        ),
-        value: d,
+    let r2 = q.x * q.x + q.y * q.y;
+    let e = c.neutral * ((q.x * q1y - q.y * q1x) / r2) * k;
+    let r = earlier(note(note(0, k), phi), earlier(x.refusal, v.refusal));
+    Pace {
+        u: e,
+        ru: note(note(r, r2), e),
+        v: d,
+        rv: note(r, d),
+        q: q,
+        rq: earlier(note(0, phi), x.refusal),
     }
 }
 
-// How fast u runs at t.
-pub fn slope_u(c: Course, t: f64) -> CheckedNumber
-    ensures refusal { λ r. ⌜ r .refusal ≡ slopeUC c t .refusal ⌝ }
-    ensures value { λ r. ⌜ r .value ≡ slopeUC c t .value ⌝ }
+// How fast u and v run at t, and where the generatrix ends.
+pub fn motion(c: Course, t: f64) -> Pace
+    ensures ru { λ r. ⌜ r .ru ≡ slopeUC c t .refusal ⌝ }
+    ensures u { λ r. ⌜ r .u ≡ slopeUC c t .value ⌝ }
+    ensures rv { λ r. ⌜ r .rv ≡ slopeVC c t .refusal ⌝ }
+    ensures v { λ r. ⌜ r .v ≡ slopeVC c t .value ⌝ }
+    ensures rq { λ r. ⌜ r .rq ≡ reachedC c t .refusal ⌝ }
+    ensures q { λ r. ⌜ r .q ≡ spotC c t .value ⌝ }
 {
+    let m = moved(c, t);
     let k = c.turn;
     match k {
         Turn::Without => {
             let d = c.to - c.from;
-            CheckedNumber {
-                refusal: note(0, d),
-                value: d,
+            let q = m.q;
+            Pace {
+                u: d,
+                ru: note(0, d),
+                v: m.v,
+                rv: m.rv,
+                q: q,
+                rq: m.rq,
             }
         }
-        Turn::Angles(_, _) => around(c, t),
+        Turn::Angles(_, _) => m,
     }
 }
 
-fn own_point(c: Course, t: f64) -> CheckedVec2
-    ensures refusal { λ r. ⌜ r .refusal ≡ ownPointC c t .refusal ⌝ }
-    ensures value { λ r. ⌜ r .value ≡ ownPointC c t .value ⌝ }
+// u of a point in space, within half a turn of the piece's first.
+fn near(c: Course, q: Vec3) -> f64
+    ensures { λ r. ⌜ r ≡ nearC c q .value ⌝ }
 {
-    let u = c.from + (c.to - c.from) * t;
-    let phi = u / c.neutral;
-    let p = c.pipe;
-    let z = height(p, phi);
-    CheckedVec2 {
-        refusal: earlier(note(0, phi), z.refusal),
-        value: Vec2 { x: u, y: z.value },
-    }
-}
-
-fn hole_point(c: Course, t: f64) -> CheckedVec2
-    ensures refusal { λ r. ⌜ r .refusal ≡ holePointC c t .refusal ⌝ }
-    ensures value { λ r. ⌜ r .value ≡ holePointC c t .value ⌝ }
-{
-    let phi = angle(c, t);
-    let p = c.pipe;
-    let x = reaches::point(p, phi);
     let turn = c.neutral * TAU;
-    let u = c.neutral * atan2(x.value.y, x.value.x);
-    let near = u + turn * round((c.from - u) / turn);
-    CheckedVec2 {
-        refusal: note(earlier(note(0, phi), x.refusal), near),
-        value: Vec2 {
-            x: near,
-            y: x.value.z,
-        },
+    let u = c.neutral * atan2(q.y, q.x);
+    u + turn * round((c.from - u) / turn)
+}
+
+// u and v where the generatrix at t ends at q.
+fn placed(c: Course, t: f64, q: Vec3) -> CheckedVec2
+    ensures refusal { λ r. ⌜ r .refusal ≡ placedC c t q .refusal ⌝ }
+    ensures value { λ r. ⌜ r .value ≡ placedC c t q .value ⌝ }
+{
+    let k = c.turn;
+    match k {
+        Turn::Without => {
+            let u = c.from + (c.to - c.from) * t;
+            CheckedVec2 {
+                refusal: note(0, q.z),
+                value: Vec2 { x: u, y: q.z },
+            }
+        }
+        Turn::Angles(_, _) => {
+            let u = near(c, q);
+            CheckedVec2 {
+                refusal: note(noted(q, 0), u),
+                value: Vec2 { x: u, y: q.z },
+            }
+        }
     }
 }
 
@@ -157,9 +242,28 @@ pub fn point(c: Course, t: f64) -> CheckedVec2
     ensures refusal { λ r. ⌜ r .refusal ≡ pointC c t .refusal ⌝ }
     ensures value { λ r. ⌜ r .value ≡ pointC c t .value ⌝ }
 {
-    let k = c.turn;
-    match k {
-        Turn::Without => own_point(c, t),
-        Turn::Angles(_, _) => hole_point(c, t),
+    let m = motion(c, t);
+    let p = placed(c, t, m.q);
+    let v = p.value;
+    CheckedVec2 {
+        refusal: earlier(m.rq, p.refusal),
+        value: v,
+    }
+}
+
+// The point at t, and its derivative.
+pub fn at(c: Course, t: f64) -> CheckedPlace
+    ensures refusal { λ r. ⌜ r .refusal ≡ atC c t .refusal ⌝ }
+    ensures value { λ r. ⌜ r .value ≡ atC c t .value ⌝ }
+{
+    let m = motion(c, t);
+    let p = placed(c, t, m.q);
+    let v = p.value;
+    CheckedPlace {
+        refusal: earlier(m.ru, earlier(m.rv, earlier(m.rq, p.refusal))),
+        value: Place {
+            p: v,
+            d: Vec2 { x: m.u, y: m.v },
+        },
     }
 }
