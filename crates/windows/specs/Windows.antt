@@ -1,10 +1,9 @@
 -- Where a piece that follows a meet turns between two samples (`Rolled::meet_box`).
 use Prim.Native.Nat.{ℕ, _+_}
-use mathlib.Core.Bool.{Bool, true, false, cond, not}
-use lib.IntN.{pos}
-use lib.Ieee.{Float, binary64, inf, lt, le, ofInt, ofBits}
+use mathlib.Core.Bool.{Bool, cond, not}
+use lib.Ieee.{Float, lt, le}
 use Rattle.checked.specs.Checked.{Checked, first, _>>=_, given, finite, num, _⊕_, _⊗_, _⊘_}
-use Rattle.checked.specs.Numbers.{zero}
+use Rattle.checked.specs.Numbers.{literal, float, zero, half}
 use Rattle.order.specs.Least.{least, greatest}
 use Rattle.vectors.specs.declared.Vec2.{Vec2}
 use Rattle.vectors.specs.Vectors.{plane}
@@ -12,18 +11,15 @@ use Rattle.loops.specs.Loops.{foldC}
 use Rattle.courses.specs.declared.Course.{Course}
 use Rattle.courses.specs.Courses.{slopeUC, slopeVC, pointC}
 use Rattle.windows.specs.declared.Gap.{Gap}
-use Rattle.windows.specs.declared.MeetBox.{MeetBox}
+use Rattle.windows.specs.declared.FlatBox.{FlatBox}
 
--- 0.5 and 64
-abbrev pub half : Float
-half = ofBits binary64 0x3fe0_0000_0000_0000
-
+-- 64
 abbrev pub intervals : Float
-intervals = ofBits binary64 0x4050_0000_0000_0000
+intervals = literal 0x4050_0000_0000_0000
 
 -- where the sample k is
 abbrev pub placeC : ℕ → Checked Float
-placeC k = num (ofInt binary64 (pos k)) ⊘ num intervals
+placeC k = num (float k) ⊘ num intervals
 
 -- the derivative at t of v where `upright`, else of u
 unfoldable pub slopeC : Course → Bool → Float → Checked Float
@@ -56,14 +52,14 @@ turningC c upright rising g = do
   pointC c m
 
 -- ---- the box
-unfoldable pub widened : MeetBox → Vec2 → MeetBox
+unfoldable pub widened : FlatBox → Vec2 → FlatBox
 widened b p = record {
   low = plane (least (b .low .x) (p .x)) (least (b .low .y) (p .y));
   high = plane (greatest (b .high .x) (p .x)) (greatest (b .high .y) (p .y));
 }
 
 -- the box with the turning point between two samples, where their derivatives differ in sign
-unfoldable pub windowC : Course → Bool → ℕ → Float → Float → MeetBox → Checked MeetBox
+unfoldable pub windowC : Course → Bool → ℕ → Float → Float → FlatBox → Checked FlatBox
 windowC c upright k d0 d1 b =
     cond
     (agree (lt zero d0) (lt zero d1))
