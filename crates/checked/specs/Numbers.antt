@@ -11,7 +11,7 @@ literal b = ofBits binary64 b
 abbrev pub float : ℕ → Float
 float k = ofInt binary64 (pos k)
 
--- 0, 0.5, 1, 1.5, 2, 3, 4
+-- 0, 0.5, 1, 1.5, 2, 3, 4, 6
 abbrev pub zero : Float
 zero = literal 0
 
@@ -32,6 +32,9 @@ three = literal 0x4008_0000_0000_0000
 
 abbrev pub four : Float
 four = literal 0x4010_0000_0000_0000
+
+abbrev pub six : Float
+six = literal 0x4018_0000_0000_0000
 
 -- π rounded, 3.141592653589793
 abbrev pub pi : Float
