@@ -1,8 +1,8 @@
 -- What is integrated over a surface of revolution. At the angle θ and s along the axis the point is x = origin + r(θ)·ρ(s) + axis·s, with
 -- ρ(s) = radius + slope·s, and n dA = ρ(s)·(r(θ) − slope·axis) dθ ds.
-use lib.Ieee.{Float, binary64, ofBits}
+use lib.Ieee.{Float}
 use Rattle.checked.specs.Checked.{Checked, first, _>>=_, given, num, _⊕_, _⊖_, _⊗_, _⊘_}
-use Rattle.checked.specs.Numbers.{half, two, four, zero, one}
+use Rattle.checked.specs.Numbers.{zero, half, one, two, four, six}
 use Rattle.vectors.specs.declared.Vec3.{Vec3}
 use Rattle.vectors.specs.Vectors.{vec, _⊞_, _⊟_, _⊠_, _⊡_}
 use Rattle.directions.specs.Directions.{sqrtC}
@@ -13,10 +13,6 @@ use Rattle.integrals.specs.declared.Integrals.{Integrals}
 use Rattle.integrands.specs.declared.Revolved.{Revolved}
 use Rattle.integrands.specs.declared.Bearing.{Bearing}
 use Rattle.integrands.specs.declared.Place.{Place}
-
--- 6
-abbrev pub six : Float
-six = ofBits binary64 0x4018_0000_0000_0000
 
 -- what `revolution` works out of its cone before the first path
 unfoldable pub revolvedC : Cone → Vec3 → Checked Revolved
@@ -68,9 +64,9 @@ term3C w s a b c = do
 
 unfoldable pub termsC : Float → Integrals → Integrals → Integrals → Integrals → Checked Integrals
 termsC w s a b c = do
+  area ← termC w (s .area) (a .area) (b .area) (c .area)
   volume ← termC w (s .«six_v») (a .«six_v») (b .«six_v») (c .«six_v»)
   m ← term3C w (s .moment) (a .moment) (b .moment) (c .moment)
-  area ← termC w (s .area) (a .area) (b .area) (c .area)
   n ← term3C w (s .«area_vector») (a .«area_vector») (b .«area_vector») (c .«area_vector»)
   given (record { «six_v» = volume; moment = m; area = area; «area_vector» = n })
 

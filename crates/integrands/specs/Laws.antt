@@ -4,9 +4,9 @@ use mathlib.Core.Path.{_≡_, refl, _∙_, ap}
 use mathlib.Core.Bool.{Bool, true, false, _&&_}
 use lib.Dec.{T}
 use lib.Ieee.{Float, binary64, add, mul}
-use lib.Ieee.Fits.{and-i, and-l, and-r}
+use lib.Ieee.Fits.{and-i}
 use Rattle.checked.specs.Checked.{first, nine, isFinite}
-use Rattle.checked.specs.Laws.{first-assoc, zero-first, first-zero, ok, nine-ok, ok-and, holds, add-left, add-right, sub-right, mul-left, mul-right, rules as checked-rules}
+use Rattle.checked.specs.Laws.{first-assoc, zero-first, first-zero, ok, nine-ok, ok-and, absorb, holds, add-left, add-right, sub-right, mul-left, mul-right, rules as checked-rules}
 use Rattle.checked.specs.Numbers.{half, four, zero as nought, one}
 use Rattle.rounding.specs.Laws.{rounded}
 use Rattle.vectors.specs.declared.Vec3.{Vec3}
@@ -18,7 +18,7 @@ use Rattle.frames.specs.declared.Cone.{Cone}
 use Rattle.frames.specs.Frames.{frameC}
 use Rattle.integrals.specs.declared.Integrals.{Integrals}
 use Rattle.integrals.specs.Sums.{finiteSums, sumsNine}
-use Rattle.integrals.specs.Laws.{sums-ok}
+use Rattle.integrals.specs.Laws.{Finite, sums-ok, area-first, the-volume, the-moment, the-area, the-vector, sums-of}
 use Rattle.integrands.specs.declared.Revolved.{Revolved}
 use Rattle.integrands.specs.declared.Bearing.{Bearing}
 use Rattle.integrands.specs.declared.Place.{Place}
@@ -48,8 +48,8 @@ unfolding term3C isFinite3
 term3-nine w s a b c = simp (nines-ok, term-nine, checked-rules, nine-ok, ok-and)
 
 terms-nine : (w : Float) (s a b c : Integrals) → termsC w s a b c .refusal ≡ sumsNine (termsC w s a b c .value)
-unfolding termsC finiteSums
-terms-nine w s a b c = simp (sums-ok, term-nine, term3-nine, nines-ok, first-zero, nine-ok, ok-and)
+unfolding termsC
+terms-nine w s a b c = simp (term-nine, term3-nine, first-zero) (area-first (termsC w s a b c .value))
 
 -- the eight in another order
 eight : (a m v n : Bool) → ok (m && (a && (v && n))) ≡ ok (v && (m && (a && n)))
@@ -85,39 +85,6 @@ the-z v h = holds (isFinite (v .z)) (isFinite3 v) (tells-z v) h
 three : (v : Vec3) → T (isFinite (v .x)) → T (isFinite (v .y)) → T (isFinite (v .z)) → T (isFinite3 v)
 unfolding isFinite3
 three v x y z = and-i (isFinite (v .x)) (isFinite (v .y) && isFinite (v .z)) x (and-i (isFinite (v .y)) (isFinite (v .z)) y z)
-
-module _ (s : Integrals) where
-  abbrev volume : Bool
-  volume = isFinite (s .«six_v»)
-
-  abbrev moment : Bool
-  moment = isFinite3 (s .moment)
-
-  abbrev area : Bool
-  area = isFinite (s .area)
-
-  abbrev vector : Bool
-  vector = isFinite3 (s .«area_vector»)
-
-  the-volume : T (finiteSums s) → T volume
-  unfolding finiteSums
-  the-volume h = and-l volume (moment && (area && vector)) h
-
-  the-moment : T (finiteSums s) → T moment
-  unfolding finiteSums
-  the-moment h = and-l moment (area && vector) (and-r volume (moment && (area && vector)) h)
-
-  the-area : T (finiteSums s) → T area
-  unfolding finiteSums
-  the-area h = and-l area vector (and-r moment (area && vector) (and-r volume (moment && (area && vector)) h))
-
-  the-vector : T (finiteSums s) → T vector
-  unfolding finiteSums
-  the-vector h = and-r area vector (and-r moment (area && vector) (and-r volume (moment && (area && vector)) h))
-
-  sums-of : T volume → T moment → T area → T vector → T (finiteSums s)
-  unfolding finiteSums
-  sums-of v m a n = and-i volume (moment && (area && vector)) v (and-i moment (area && vector) m (and-i area vector a n))
 
 -- w, and what is weighed
 term-parts : (w s a b c : Float) → T (isFinite (termC w s a b c .value)) → T (isFinite w) × (T (isFinite a) × (T (isFinite b) × T (isFinite c)))
@@ -164,13 +131,6 @@ patch-parts v b s h =
 weight-nine : (p : Place) (h wgt : Float) → weightC p h wgt .refusal ≡ nine (weightC p h wgt .value)
 unfolding weightC
 weight-nine p h wgt = simp all
-
--- what is finite where the last one is need not be noted before it
-absorb : (p q : Bool) → (T q → T p) → first (ok p) (ok q) ≡ ok q
-unfolding ok first
-absorb true q h = refl
-absorb false true h = absurd (h tt)
-absorb false false h = refl
 
 -- the angle is tried three times, and the rest is told by the new sums
 chain : (s : ℕ) (n p₀ m p₁ p₂ w t : Bool) → (T t → T n) → (T t → T p₀) → (T t → T m) → (T t → T p₁) → (T t → T p₂) → (T t → T w)

@@ -17,21 +17,22 @@ use Rattle.frames.specs.declared.Cone.{Cone}
 use Rattle.frames.specs.Entries.{coneWithin}
 use Rattle.integrals.specs.declared.Integrals.{Integrals}
 use Rattle.integrals.specs.Sums.{finiteSums, nothing}
+use Rattle.integrals.specs.Laws.{Finite}
 use Rattle.loops.specs.Lists.{foldListC, list-sound, list-once}
 use Rattle.integrands.specs.declared.Revolved.{Revolved}
 use Rattle.integrands.specs.Integrands.{revolvedC}
-use Rattle.integrands.specs.Sound.{Finite, along-sound}
+use Rattle.integrands.specs.Sound.{path-sound}
 use Rattle.arc_paths.specs.ArcPaths.{courseAt, arcPathC}
 use Rattle.revolutions.specs.Revolutions.{Path, arc, pathWithin, liesOn, pathC, sumsC, closeC, revolutionC, every, faceWithin, revolutionDue, openDue, addC, addDue, closeDue, andThen, addedInTurn, inTurn}
 
 -- ---- sums stay finite
-path-sound : (w : Revolved) (p : Path) (s : Integrals) → pathC w p s .refusal ≡ 0 → Finite s → Finite (pathC w p s .value)
+each-sound : (w : Revolved) (p : Path) (s : Integrals) → pathC w p s .refusal ≡ 0 → Finite s → Finite (pathC w p s .value)
 unfolding pathC arcPathC
-path-sound w (arc a u v) s e g = along-sound w (courseAt _) _ s (first-none _ _ e .1) g
+each-sound w (arc a u v) s e g = path-sound w (courseAt _) _ s (first-none _ _ e .1) g
 
 add-sound : (cone : Cone) (o : Vec3) (p : Path) (s : Integrals) → addC cone o p s .refusal ≡ 0 → Finite s → Finite (addC cone o p s .value)
 unfolding addC
-add-sound cone o p s e g = path-sound (revolvedC cone o .value) p s (first-none _ _ e .1) g
+add-sound cone o p s e g = each-sound (revolvedC cone o .value) p s (first-none _ _ e .1) g
 
 nothing-finite : Finite nothing
 unfolding finiteSums isFinite3 isFinite ofBits

@@ -1,59 +1,27 @@
--- The integrals of the wall of a cut, over its own coordinates (t, r) with n dA = (∂r × ∂t) dt dr.
-use Prim.Native.Nat.{ℕ}
-use lib.Ieee.{Float, binary64, ofBits}
-use Rattle.checked.specs.Checked.{Checked, _>>=_, given, num, _⊕_, _⊖_, _⊗_, _⊘_}
-use Rattle.checked.specs.Numbers.{half, two, one}
+-- The integrals of the wall of a cut at one place along it. The wall's own coordinates are (t, r), with n dA = (∂r × ∂t) dt dr.
+use lib.Ieee.{Float}
+use Rattle.checked.specs.Checked.{Checked, _>>=_, given, num, _⊕_, _⊖_, _⊗_}
+use Rattle.checked.specs.Numbers.{literal, half, two, six}
 use Rattle.vectors.specs.declared.Vec2.{Vec2}
 use Rattle.vectors.specs.declared.Vec3.{Vec3}
-use Rattle.vectors.specs.Vectors.{vec, _⊞_, _⊠_, _⊡_, _⨯_}
+use Rattle.vectors.specs.Vectors.{vec, _⊞_, _⊟_, _⊠_, _⊡_, _⨯_}
 use Rattle.directions.specs.Directions.{sqrtC}
-use Rattle.circle.specs.Circle.{sincosC}
+use Rattle.rolls.specs.Rolls as rolls
 use Rattle.integrals.specs.declared.Integrals.{Integrals}
-use Rattle.integrals.specs.Gauss.{node, weight}
-use Rattle.loops.specs.Loops.{foldC}
-use Rattle.walls.specs.declared.Development.{Development}
-use Rattle.walls.specs.declared.Spot.{Spot}
-use Rattle.walls.specs.declared.Wall.{Wall}
+use Rattle.integrals.specs.Gauss.{stretchC}
+use Rattle.walls.specs.declared.Strip.{Strip}
 
--- 0.25 and 6
+-- 0.25
 abbrev pub quarter : Float
-quarter = ofBits binary64 0x3fd0_0000_0000_0000
+quarter = literal 0x3fd0_0000_0000_0000
 
-abbrev pub six : Float
-six = ofBits binary64 0x4018_0000_0000_0000
-
--- ---- the development
--- the unit vector away from the axis at u
-unfoldable pub radialC : Development → Float → Checked Vec3
-radialC dev u = do
-  t ← num u ⊘ num (dev .neutral)
-  s ← sincosC t
-  vec (dev .start) ⊠ num (s .cos) ⊞ vec (dev .axis) ⨯ vec (dev .start) ⊠ num (s .sin)
-
--- how the point at r from the axis moves, by the direction away from the axis, worked out by m
-unfoldable pub movesC : Development → Vec2 → Float → Checked Vec3 → Checked Vec3
-movesC dev d r m = do
-  w ← m
-  vec (dev .axis) ⨯ vec w ⊠ (num (d .x) ⊗ num r ⊘ num (dev .neutral)) ⊞ vec (dev .axis) ⊠ num (d .y)
-
--- `Development::along`
-unfoldable pub alongC : Development → Vec2 → Vec2 → Float → Checked Vec3
-alongC dev p d r = movesC dev d r (radialC dev (p .x))
-
--- what a computation gave
-abbrev pub held : Vec3 → ℕ → Checked Vec3
-held w r = record { refusal = r; value = w }
-
--- ---- one node
--- where the path is at q, and m works out the direction away from the axis there
-module _ (v : Wall) (q : Spot) (m : Checked Vec3) where
-  -- `radial.cross(w.dev.along(p, d, r)) * (0.25 * h * wt * hr * wr)`
-  unfoldable pub normalC : Float → Float → Float → Float → Checked Vec3
-  normalC h wt wr r = do
-    a ← movesC (v .dev) (q .d) r m
-    c ← vec (m .value) ⨯ vec a
-    k ← num quarter ⊗ num h ⊗ num wt ⊗ num (v .hr) ⊗ num wr
-    vec c ⊠ num k
+-- what `wall` works out before its loop, but for the length of a stretch
+unfoldable pub stripC : Vec3 → Vec3 → Vec3 → Float → Float → Float → Vec3 → Checked Strip
+stripC origin axis start neutral r0 r1 o = do
+  hr ← num r1 ⊖ num r0
+  mr ← num half ⊗ (num r0 ⊕ num r1)
+  base ← vec origin ⊟ vec o
+  given (record { axis = axis; start = start; neutral = neutral; base = base; hr = hr; mr = mr })
 
 -- the sums with the patch at x added, whose normal is n
 unfoldable pub addedC : Vec3 → Vec3 → Integrals → Checked Integrals
@@ -65,23 +33,23 @@ addedC x n s = do
   vector ← vec (s .«area_vector») ⊞ vec n
   given (record { «six_v» = volume; moment = moment; area = area; «area_vector» = vector })
 
-module _ (v : Wall) (q : Spot) (m : Checked Vec3) (h wt : Float) where
-  unfoldable pub ribC : Float → Float → Integrals → Checked Integrals
-  ribC wr r s = do
-    x ← vec (v .base) ⊞ vec (v .dev .axis) ⊠ num (q .p .y) ⊞ vec (m .value) ⊠ num r
-    n ← normalC v q m h wt wr r
-    addedC x n s
+-- `radial.cross(w.dev.along(p, d, r)) * (0.25 * h * wt * hr * wr)`, where `moves` is how the point at r moves
+unfoldable pub normalC : Strip → Vec3 → (Float → Checked Vec3) → Float → Float → Float → Float → Checked Vec3
+normalC v radial moves h wt wr r = vec radial ⨯ moves r ⊠ (num quarter ⊗ num h ⊗ num wt ⊗ num (v .hr) ⊗ num wr)
 
-  -- `for r in [mr - 0.5 * hr * y, mr + 0.5 * hr * y]`: both are worked out, then their nodes
-  unfoldable pub radiiC : Float → Float → Integrals → Checked Integrals
-  radiiC y wr s = do
-    low ← num (v .mr) ⊖ num half ⊗ num (v .hr) ⊗ num y
-    high ← num (v .mr) ⊕ num half ⊗ num (v .hr) ⊗ num y
-    a ← ribC wr low s
-    ribC wr high a
+-- the sums after the node at r
+unfoldable pub patchC : Strip → Vec2 → Vec3 → (Float → Checked Vec3) → Float → Float → Float → Float → Integrals → Checked Integrals
+patchC v p radial moves h wt wr r s = do
+  x ← vec (v .base) ⊞ vec (v .axis) ⊠ num (p .y) ⊞ vec radial ⊠ num r
+  n ← normalC v radial moves h wt wr r
+  addedC x n s
 
-  abbrev pub radiiAtC : ℕ → Integrals → Checked Integrals
-  radiiAtC j s = radiiC (node j) (weight j) s
+-- `Development::along`, which works out the direction away from the axis once more
+abbrev pub alongC : Strip → Vec2 → Vec2 → Float → Checked Vec3
+alongC v p d r = rolls.alongC (v .axis) (v .start) (v .neutral) p d r
 
-  unfoldable pub ribsC : Integrals → Checked Integrals
-  ribsC s = foldC 4 radiiAtC s
+-- the sums after all radii where the piece is at p and moves by d
+unfoldable pub stationC : Strip → Vec2 → Vec2 → Float → Float → Integrals → Checked Integrals
+stationC v p d h wt s = do
+  radial ← rolls.radialC (v .axis) (v .start) (v .neutral) (p .x)
+  stretchC (patchC v p radial (alongC v p d) h wt) (v .hr) (v .mr) s

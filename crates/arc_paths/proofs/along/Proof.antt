@@ -6,15 +6,16 @@ use Rattle.checked.specs.Checked.{first}
 use Rattle.checked.specs.Laws.{first-assoc, first-zero, rules as checked-rules}
 use Rattle.loops.specs.Loops.{foldC}
 use Rattle.loops.specs.Laws.{fold-none, fold-refusal, fold-value}
-use Rattle.integrands.specs.Along.{pieceC, alongC}
+use Rattle.integrals.specs.Gauss.{stretchAtC, alongC}
+use Rattle.integrands.specs.Along.{nodeAtC}
 use Rattle.arc_paths.specs.ArcPaths.{courseAt}
 use Rattle.arc_paths.proofs.along.Statement.{statement}
 use Rattle.arc_paths.proofs.along.Tie as tie
 
--- `i` pieces are summed
+-- i stretches are summed
 abbrev Inv-loop : tie.InvT-loop
 Inv-loop v c n h a₀ i₀ a i =
-    let step = pieceC v (courseAt c) h in
+    let step = stretchAtC (nodeAtC v (courseAt c)) h in
     (i ≤ n) × ((a .refusal ≡ first (a₀ .refusal) (foldC i step (a₀ .value) .refusal)) × (a .value ≡ foldC i step (a₀ .value) .value))
 
 abbrev μ-loop : tie.MeasureT-loop
@@ -29,8 +30,8 @@ note-requires c κs = search needs
 loop-holds : tie.Need-loop-holds Inv-loop μ-loop
 loop-holds c = (omega arith, (simp (fold-none, first-zero), simp fold-none))
 
-piece-requires : tie.Need-piece-requires Inv-loop μ-loop
-piece-requires c κs = search needs
+stretch-requires : tie.Need-stretch-requires Inv-loop μ-loop
+stretch-requires c κs = search needs
 
 add-i : tie.Need-add-i Inv-loop μ-loop
 add-i c = omega arith
@@ -41,13 +42,13 @@ loop-less c = omega arith
 loop-again : tie.Need-loop-again Inv-loop μ-loop
 loop-again c =
     let sums = c .before .before .loop .inv .1 in
-    (omega arith, (simp (c .piece .ensures .0, sums .0, sums .1, fold-refusal, first-assoc), simp (c .piece .ensures .1, sums .1, fold-value)))
+    (omega arith, (simp (c .stretch .ensures .0, sums .0, sums .1, fold-refusal, first-assoc), simp (c .stretch .ensures .1, sums .1, fold-value)))
 
 returns : tie.Need-returns Inv-loop μ-loop
 unfolding alongC
 returns c =
     let sums = c .before .loop .inv .1 in
-    let all : c .before .loop .i ≡ c .before .before .before .before .before .args .c .pieces = omega arith in
+    let all : c .before .loop .i ≡ c .before .before .before .before .before .args .c .stretches = omega arith in
     (simp (sums .0, all, c .before .before .note .ensures, checked-rules), simp (sums .1, all))
 
 pub along-spec : {M : Type 1} → statement M
@@ -59,7 +60,7 @@ along-spec =
     int-to-float-h
     note-requires
     loop-holds
-    piece-requires
+    stretch-requires
     add-i
     loop-less
     loop-again

@@ -6,19 +6,20 @@ use Rattle.checked.specs.Checked.{first}
 use Rattle.checked.specs.Laws.{first-assoc, first-zero, rules as checked-rules}
 use Rattle.loops.specs.Loops.{foldC}
 use Rattle.loops.specs.Laws.{fold-none, fold-refusal, fold-value}
-use Rattle.walls.specs.Over.{pairAtC, pieceC}
-use Rattle.straight_walls.specs.Straight.{straightC}
-use Rattle.straight_walls.proofs.piece.Statement.{statement}
-use Rattle.straight_walls.proofs.piece.Tie as tie
+use Rattle.integrals.specs.Gauss.{pairAtC, stretchC, stretchAtC}
+use Rattle.integrands.specs.Along.{nodeAtC}
+use Rattle.arc_paths.specs.ArcPaths.{courseAt}
+use Rattle.arc_paths.proofs.stretch.Statement.{statement}
+use Rattle.arc_paths.proofs.stretch.Tie as tie
 
--- `j` pairs are summed
+-- j pairs are summed
 abbrev Inv-loop : tie.InvT-loop
-Inv-loop v l h i mid a₀ j₀ a j =
-    let step = pairAtC v (straightC l) h mid in
+Inv-loop v c h i mid a₀ j₀ a j =
+    let step = pairAtC (nodeAtC v (courseAt c) h) h mid in
     (j ≤ 4) × ((a .refusal ≡ first (a₀ .refusal) (foldC j step (a₀ .value) .refusal)) × (a .value ≡ foldC j step (a₀ .value) .value))
 
 abbrev μ-loop : tie.MeasureT-loop
-μ-loop v l h i mid a₀ j₀ a j = 4 - j
+μ-loop v c h i mid a₀ j₀ a j = 4 - j
 
 int-to-float-mid : tie.Need-int-to-float-mid Inv-loop μ-loop
 int-to-float-mid c = search needs
@@ -56,14 +57,14 @@ loop-again c =
     (omega arith, (simp (c .pair .ensures .0, sums .0, sums .1, fold-refusal, first-assoc), simp (c .pair .ensures .1, sums .1, fold-value)))
 
 returns : tie.Need-returns Inv-loop μ-loop
-unfolding pieceC
+unfolding stretchAtC stretchC
 returns c =
     let sums = c .before .loop .inv .1 in
     let all : c .before .loop .j ≡ 4 = omega arith in
     (simp (sums .0, all, c .before .before .note .ensures, checked-rules), simp (sums .1, all))
 
-pub piece-spec : {M : Type 1} → statement M
-piece-spec =
+pub stretch-spec : {M : Type 1} → statement M
+stretch-spec =
     tie.close
     (tie.spec
     Inv-loop

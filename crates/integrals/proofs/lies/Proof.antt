@@ -1,0 +1,22 @@
+use borrow.Author.Needs.{needs}
+use borrow.Author.Tests.{eq-eqb, ne-eqb}
+use Rattle.integrals.specs.Gauss.{lies}
+use Rattle.integrals.proofs.lies.Statement.{statement}
+use Rattle.integrals.proofs.lies.Tie as tie
+
+mul-off : tie.Need-mul-off
+mul-off c = search needs
+
+array-read-off : tie.Need-array-read-off
+array-read-off c = search needs
+
+returns : tie.Need-returns
+unfolding lies
+returns c = simp (eq-eqb _ _ (c .if1 .taken))
+
+returns-2 : tie.Need-returns-2
+unfolding lies
+returns-2 c = simp (ne-eqb _ _ (c .if1 .left))
+
+pub lies-spec : {M : Type 1} → statement M
+lies-spec = tie.close (tie.spec mul-off array-read-off returns returns-2)
