@@ -8,7 +8,7 @@ use Rattle.checked.specs.Numbers.{one}
 use Rattle.vectors.specs.declared.Vec3.{Vec3}
 use Rattle.vectors.specs.Vectors.{within3, vec, _⊞_}
 use Rattle.arcs.specs.declared.Arc.{Arc}
-use Rattle.arcs.specs.Entries.{arcWithin}
+use Rattle.sweeps.specs.Sweeps.{circleWithin}
 use Rattle.frames.specs.declared.Cone.{Cone}
 use Rattle.frames.specs.Entries.{coneWithin}
 use Rattle.integrals.specs.declared.Integrals.{Integrals}
@@ -25,7 +25,7 @@ pub data Path : Type 0 where
 
 -- its numbers pass the test of what is handed in
 unfoldable pub pathWithin : Path → Bool
-pathWithin (arc a u v) = arcWithin a && (within3 u && within3 v)
+pathWithin (arc a u v) = circleWithin (a .center) (a .axis) (a .radius) && (within3 u && within3 v)
 
 -- number 7: a piece of a development lies on no cone whose slope isn't 0
 unfoldable pub liesOn : Cone → Path → Bool

@@ -8,7 +8,8 @@ use Rattle.vectors.specs.declared.Vec3.{Vec3}
 use Rattle.vectors.specs.Vectors.{vec, _⊞_, _⊟_, _⊠_, _⊡_}
 use Rattle.circle.specs.Circle.{sinC}
 use Rattle.arcs.specs.declared.Arc.{Arc}
-use Rattle.arcs.specs.Arcs.{sweepC, atC}
+use Rattle.sweeps.specs.Sweeps.{sweepC}
+use Rattle.spokes.specs.Spokes.{atC}
 use Rattle.integrals.specs.declared.Integrals.{Integrals}
 use Rattle.integrals.specs.Sums.{side}
 use Rattle.segments.specs.declared.Slice.{Slice}
@@ -20,7 +21,7 @@ about arc k = record { center = arc .center; axis = k; radius = arc .radius }
 -- the slice's turn φ, φ - sin φ, and its area: `0.5 * r * r * (phi - sin(phi)) * if k.dot(n) > 0.0 { 1.0 } else { -1.0 }`
 unfoldable pub sliceC : Arc → Vec3 → Vec3 → Vec3 → Checked Slice
 sliceC turned u v n = do
-  phi ← sweepC turned u v
+  phi ← sweepC (turned .center) (turned .axis) u v
   q ← num half ⊗ num (turned .radius) ⊗ num (turned .radius)
   rest ← num phi ⊖ sinC phi
   a ← num q ⊗ num rest
@@ -32,7 +33,7 @@ sliceC turned u v n = do
 unfoldable pub centroidC : Arc → Vec3 → Slice → Checked Vec3
 centroidC turned u s = do
   t ← num half ⊗ num (s .turn)
-  p ← atC turned u t
+  p ← atC (turned .center) (turned .axis) (turned .radius) u t
   mid ← vec p ⊟ vec (turned .center)
   h ← sinC t
   vec (turned .center) ⊞ vec mid ⊠ (num four ⊗ num h ⊗ num h ⊗ num h ⊘ (num three ⊗ num (s .rest)))
