@@ -8,10 +8,9 @@ use Rattle.boxes.specs.declared.Bounds.{Bounds}
 use Rattle.boxes.specs.Boxes.{free, passed, Sound}
 use Rattle.boxes.specs.Demand3 as Demand3
 use Rattle.boxes.specs.Demand3.{Met, SameAccepted, SameBox, run}
+use Rattle.extremes.specs.Sound.{points-sound}
 use Rattle.arcs.specs.declared.Arc.{Arc}
-use Rattle.arcs.specs.Extremes.{pointsC}
 use Rattle.arcs.specs.Entries as arcs
-use Rattle.arcs.specs.Sound.{points-sound}
 
 -- what a box call is handed, the box apart
 pub data Edge : Type 0 where
@@ -24,7 +23,7 @@ handed (ArcEdge arc from to) = arcs.handed arc from to
 
 -- the ends and extreme points, as they are worked out
 abbrev pub points : Edge → Checked (List Vec3)
-points (ArcEdge arc from to) = pointsC arc from to
+points (ArcEdge arc from to) = arcs.points arc from to
 
 -- a call on a box
 abbrev pub call : Bounds → Edge → Due Bounds
@@ -36,7 +35,7 @@ unfolding arcs.extendDue
 arc-call b arc from to = refl
 
 sound : (e : Edge) → handed e ≡ passed → Sound (points e)
-sound (ArcEdge arc from to) h = points-sound arc from to
+sound (ArcEdge arc from to) h = points-sound (arc .center) (arc .axis) (arc .radius) from to
 
 -- every list of box calls, from every box free of NaN
 pub box-calls-met : (b : Bounds) → T (free b) → (es : List Edge) → Met handed points b es

@@ -5,7 +5,7 @@ ghost use Rattle.profiles.specs.Profiles as Profiles;
 ghost use Rattle.chords.specs.Chords as Chords;
 ghost use Rattle.arcs.specs.Entries as Arcs;
 ghost use lib.ListN.{length};
-ghost use Rattle.arcs.specs.Inner.{innerPointsDue};
+ghost use Rattle.arcs.specs.Entries.{innerPointsDue};
 ghost use Rattle.rows.specs.Rows as Rows;
 ghost use Rattle.records.specs.Records.{vec2, vec3, alone, ofVec3, numberOf, after};
 ghost use Rattle.arc_records.specs.Records.{arc, profileArc, bounds, ofArc, ofBounds, afterCount};

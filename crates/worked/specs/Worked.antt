@@ -31,11 +31,13 @@ use Rattle.profiles.specs.declared.ProfileArc.{ProfileArc}
 use Rattle.directions.specs.Directions.{lengthC, acrossC}
 use Rattle.angles.specs.Angles.{aheadC, backC}
 use Rattle.profiles.specs.Profiles.{apartC, turnC, turnDue}
+use Rattle.sweeps.specs.Sweeps.{circleWithin, endsWithin, sweepFromC, sweepC}
+use Rattle.spokes.specs.Spokes.{spokeC, turnedC, atC}
+use Rattle.extremes.specs.Extremes.{sideC, takenC, bothC, extremesC, pointsC}
+use Rattle.cuts.specs.Cuts.{chordWithin, cutC, innerC, innersDue}
 use Rattle.arcs.specs.declared.Arc.{Arc}
-use Rattle.arcs.specs.Arcs.{reversedC, sweepFromC, sweepC, spokeC, turnedC, atC}
-use Rattle.arcs.specs.Inner.{cutC, innerC, innersDue, innerPointsDue}
-use Rattle.arcs.specs.Extremes.{sideC, takenC, bothC, extremesC, pointsC}
-use Rattle.arcs.specs.Entries.{arcWithin, endsWithin, reversedDue, sweepDue, extendDue}
+use Rattle.arcs.specs.Arcs.{reversedC}
+use Rattle.arcs.specs.Entries.{reversedDue, sweepDue, extendDue, innerPointsDue}
 use Rattle.decimals.specs.Thousandths.{signed as signedWhole, thousandths}
 use Rattle.decimals.specs.Digits.{spelled, digits, numeral}
 use Rattle.edge_lines.specs.Lines.{bytes, spaced, corner, emptyLine, refusedLine, boxLine}
@@ -149,5 +151,5 @@ cases =
 
 -- every case computes
 pub all-hold : All cases
-unfolding cases add sub mul div neg lt le eq isNan ofBits toBits first isFinite nine within settled fabs signed choose sqrt reduced atan isOne ratioAngle angle atan2 negative least greatest within2 within3 plusC minusC timesC negC crossC dotC lesser greater widened widenedBy numbers free boxCall lengthC acrossC aheadC backC apartC turnC turnDue sweepFromC sweepC sideC takenC bothC extremesC pointsC arcWithin endsWithin sweepDue extendDue reversedC reversedDue inBytes number point arcRecord signedWhole thousandths spelled digits numeral bytes spaced corner emptyLine refusedLine boxLine lowFirst numberAt pointAt tagged headOf kindOf edgeOf recordOf sizeOf next printed ended lineFrom lineOf ofInt toUnsigned toSigned eight ceil secondRound medium toFive toNine remPio2 turnedSines sines sinesOrZeros acosFar acosNear acos quotientC chordsC clamped perTurnC limitedC countC upTo spokeC turnedC atC cutC innerC innersDue innerPointsDue
+unfolding cases add sub mul div neg lt le eq isNan ofBits toBits first isFinite nine within settled fabs signed choose sqrt reduced atan isOne ratioAngle angle atan2 negative least greatest within2 within3 plusC minusC timesC negC crossC dotC lesser greater widened widenedBy numbers free boxCall lengthC acrossC aheadC backC apartC turnC turnDue sweepFromC sweepC sideC takenC bothC extremesC pointsC circleWithin endsWithin chordWithin sweepDue extendDue reversedC reversedDue inBytes number point arcRecord signedWhole thousandths spelled digits numeral bytes spaced corner emptyLine refusedLine boxLine lowFirst numberAt pointAt tagged headOf kindOf edgeOf recordOf sizeOf next printed ended lineFrom lineOf ofInt toUnsigned toSigned eight ceil secondRound medium toFive toNine remPio2 turnedSines sines sinesOrZeros acosFar acosNear acos quotientC chordsC clamped perTurnC limitedC countC upTo spokeC turnedC atC cutC innerC innersDue innerPointsDue
 all-hold = (refl, (refl, (refl, (refl, (refl, (refl, (refl, (refl, (refl, (refl, (refl, (refl, (refl, tt)))))))))))))

@@ -1,6 +1,6 @@
 use borrow.Author.Needs.{needs}
 use Rattle.spokes.specs.Spokes.{spokeC}
-use Rattle.checked.specs.Laws.{first-assoc, zero-first}
+use Rattle.checked.specs.Laws.{zero-first}
 use Rattle.spokes.specs.Laws.{spoke-refusal}
 use mathlib.Core.Path.{sym, _∙_}
 use Rattle.spokes.proofs.spoke.Statement.{statement}
@@ -26,7 +26,7 @@ noted-requires c κs = search needs
 
 returns : tie.Need-returns
 unfolding spokeC
-returns c = ((simp (c .noted .ensures, c .before .note .ensures, c .before .before .times .ensures, c .before .before .before .length .ensures, c .before .before .before .before .across .ensures, c .before .before .before .before .before .minus .ensures, first-assoc, zero-first)) ∙ sym (spoke-refusal (c .before .before .before .before .before .before .args .center) (c .before .before .before .before .before .before .args .axis) (c .before .before .before .before .before .before .args .radius) (c .before .before .before .before .before .before .args .from)), simp (c .before .before .times .ensures, c .before .before .before .length .ensures, c .before .before .before .before .across .ensures, c .before .before .before .before .before .minus .ensures))
+returns c = ((simp (c .noted .ensures, c .before .note .ensures, c .before .before .times .ensures, c .before .before .before .length .ensures, c .before .before .before .before .across .ensures, c .before .before .before .before .before .minus .ensures, zero-first)) ∙ sym (spoke-refusal (c .before .before .before .before .before .before .args .center) (c .before .before .before .before .before .before .args .axis) (c .before .before .before .before .before .before .args .radius) (c .before .before .before .before .before .before .args .from)), simp (c .before .before .times .ensures, c .before .before .before .length .ensures, c .before .before .before .before .across .ensures, c .before .before .before .before .before .minus .ensures))
 
 pub spoke-spec : {M : Type 1} → statement M
 spoke-spec =

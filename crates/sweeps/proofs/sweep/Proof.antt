@@ -1,6 +1,5 @@
 use borrow.Author.Needs.{needs}
 use Rattle.sweeps.specs.Sweeps.{sweepC}
-use Rattle.checked.specs.Laws.{first-assoc, zero-first}
 use Rattle.sweeps.specs.Laws.{sweep-refusal}
 use mathlib.Core.Path.{sym, _∙_}
 use Rattle.sweeps.proofs.sweep.Statement.{statement}
@@ -14,7 +13,7 @@ sweep-from-requires c κs = search needs
 
 returns : tie.Need-returns
 unfolding sweepC
-returns c = ((simp (c .sweep-from .ensures .0, c .sweep-from .ensures .1, c .before .minus .ensures, first-assoc, zero-first)) ∙ sym (sweep-refusal (c .before .before .args .center) (c .before .before .args .axis) (c .before .before .args .from) (c .before .before .args .to)), simp (c .sweep-from .ensures .1, c .before .minus .ensures))
+returns c = ((simp (c .sweep-from .ensures .0, c .before .minus .ensures)) ∙ sym (sweep-refusal (c .before .before .args .center) (c .before .before .args .axis) (c .before .before .args .from) (c .before .before .args .to)), simp (c .sweep-from .ensures .1, c .before .minus .ensures))
 
 pub sweep-spec : {M : Type 1} → statement M
 sweep-spec = tie.close (tie.spec minus-requires sweep-from-requires returns)

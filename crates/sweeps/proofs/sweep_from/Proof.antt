@@ -1,6 +1,6 @@
 use borrow.Author.Needs.{needs}
 use Rattle.sweeps.specs.Sweeps.{sweepFromC}
-use Rattle.checked.specs.Laws.{first-assoc, zero-first}
+use Rattle.checked.specs.Laws.{first-assoc}
 use Rattle.sweeps.specs.Laws.{sweepFrom-refusal}
 use mathlib.Core.Path.{sym, _∙_}
 use Rattle.sweeps.proofs.sweep_from.Statement.{statement}
@@ -29,7 +29,7 @@ note-requires c κs = search needs
 
 returns : tie.Need-returns
 unfolding sweepFromC
-returns c = ((simp (c .note .ensures, c .before .ahead .ensures, c .before .before .angle .ensures .0, c .before .before .angle .ensures .1, c .before .before .before .dot2 .ensures, c .before .before .before .before .dot .ensures, c .before .before .before .before .before .cross .ensures, c .before .before .before .before .before .before .minus .ensures, first-assoc, zero-first)) ∙ sym (sweepFrom-refusal (c .before .before .before .before .before .before .before .args .center) (c .before .before .before .before .before .before .before .args .axis) (c .before .before .before .before .before .before .before .args .u) (c .before .before .before .before .before .before .before .args .p)), simp (c .before .ahead .ensures, c .before .before .angle .ensures .1, c .before .before .before .dot2 .ensures, c .before .before .before .before .dot .ensures, c .before .before .before .before .before .cross .ensures, c .before .before .before .before .before .before .minus .ensures))
+returns c = ((simp (c .note .ensures, c .before .ahead .ensures, c .before .before .angle .ensures .0, c .before .before .angle .ensures .1, c .before .before .before .dot2 .ensures, c .before .before .before .before .dot .ensures, c .before .before .before .before .before .cross .ensures, c .before .before .before .before .before .before .minus .ensures, first-assoc)) ∙ sym (sweepFrom-refusal (c .before .before .before .before .before .before .before .args .center) (c .before .before .before .before .before .before .before .args .axis) (c .before .before .before .before .before .before .before .args .u) (c .before .before .before .before .before .before .before .args .p)), simp (c .before .ahead .ensures, c .before .before .angle .ensures .1, c .before .before .before .dot2 .ensures, c .before .before .before .before .dot .ensures, c .before .before .before .before .before .cross .ensures, c .before .before .before .before .before .before .minus .ensures))
 
 pub sweep-from-spec : {M : Type 1} → statement M
 sweep-from-spec =
