@@ -881,7 +881,7 @@ pub const LISTS: &[Entry] = &[
         port_name: "jr_curve_extend_bounds jr_extend_bounds",
         takes: EDGES * EDGE + 6,
         gives: EDGES + 12,
-        full: DEAR,
+        full: DEAR / 4,
         zeros_alike: true,
         flags: &[],
         whole_inputs: &[],

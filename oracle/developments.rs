@@ -172,7 +172,7 @@ fn beside(d: &mut Draw, i: &mut [f64], rolls: Rolls) {
     if matches!(rolls, Rolls::Limits) {
         // The angle at its limit, to both sides.
         let last = i.len() - 1;
-        let (at, limit) = (if d.below(2) == 0 { 10 } else { last }, d.pick(&[1_048_576.0, 667_544.0, 1.0, 3.0, 0.5]));
+        let (at, limit) = (if d.below(2) == 0 { 10 } else { last }, d.pick(&[1_048_576.0, 3_000_000.0, 1.0, 3.0, 0.5]));
         let far = d.near(neutral * limit, 2);
         if far.abs() <= 1_048_576.0 && d.below(4) != 0 {
             i[at] = far * d.sign();

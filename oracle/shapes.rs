@@ -446,7 +446,8 @@ fn at_limits(d: &mut Draw, i: &mut [f64; PIECE]) {
     } else {
         i[9] = limit_radius(d);
     }
-    let far = i[9] * d.pick(&[1_048_576.0, 1.0, 100_000.0]);
+    // Beyond the limit at one end, while the quotient of the whole length may leave the format.
+    let far = i[9] * d.pick(&[1_048_576.0, 1.0, 100_000.0, 3_000_000.0]);
     let far = d.near(far, 3);
     if far.abs() <= 1_048_576.0 && d.below(2) == 0 {
         i[if d.below(2) == 0 { 10 } else { 12 }] = far * d.sign();
