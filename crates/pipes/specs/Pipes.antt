@@ -4,7 +4,8 @@ use lib.Ieee.{Float, le}
 use Rattle.checked.specs.Checked.{Checked, first, _>>=_, given, finite, num, minus, _⊕_, _⊖_, _⊗_, _⊘_}
 use Rattle.checked.specs.Numbers.{zero, one}
 use Rattle.circle.specs.Circle.{sincosC}
-use Rattle.directions.specs.Directions.{sqrtC, unitC, acrossC}
+use Rattle.directions.specs.Directions.{unitC, acrossC}
+use Rattle.rounding.specs.Computations.{sqrtC}
 use Rattle.vectors.specs.declared.Vec3.{Vec3}
 use Rattle.vectors.specs.Vectors.{origin, space, vec, _⊞_, _⊟_, _⊠_, _⊡_, _⨯_}
 use Rattle.pipes.specs.declared.Pipe.{Pipe}

@@ -1,11 +1,10 @@
 -- A rolled sheet: from its development to space and back.
-use lib.Ieee.{Float, binary64}
+use lib.Ieee.{Float}
 use Rattle.checked.specs.Checked.{Checked, first, _>>=_, given, finite, num, _⊕_, _⊖_, _⊗_, _⊘_}
 use Rattle.checked.specs.Numbers.{tau}
 use Rattle.angles.specs.Angles.{atan2C}
 use Rattle.circle.specs.Circle.{sincosC}
-use Rattle.directions.specs.Directions.{sqrtC}
-use Rattle.rounding.specs.Whole.{round-away}
+use Rattle.rounding.specs.Computations.{sqrtC, roundC}
 use Rattle.vectors.specs.declared.Vec2.{Vec2}
 use Rattle.vectors.specs.declared.Vec3.{Vec3}
 use Rattle.vectors.specs.Vectors.{plane, vec, _⊞_, _⊟_, _⊠_, _⊡_, _⨯_}
@@ -34,8 +33,6 @@ unrollC o axis start neutral q near = do
   across ← vec w ⊟ vec axis ⊠ num v
   u ← num neutral ⊗ atan2C (vec across ⊡ (vec axis ⨯ vec start)) (vec across ⊡ vec start)
   turn ← num neutral ⊗ num tau
-  turns ← (num near ⊖ num u) ⊘ num turn
-  k ← finite (round-away binary64 turns)
-  at ← num u ⊕ num turn ⊗ num k
+  at ← num u ⊕ num turn ⊗ roundC ((num near ⊖ num u) ⊘ num turn)
   r ← sqrtC (vec across ⊡ vec across)
   given (record { p = plane at v; r = r })

@@ -5,7 +5,7 @@ use lib.Ieee.{Float, binary64, add, le}
 use Rattle.checked.specs.Checked.{Checked, first, nine}
 use Rattle.checked.specs.Laws.{rules as checked-rules}
 use Rattle.checked.specs.Numbers.{one}
-use Rattle.rounding.specs.Laws.{rounded}
+use Rattle.rounding.specs.Laws.{rules as rounding-rules}
 use Rattle.wave_values.specs.Values.{vC}
 use Rattle.wave_values.specs.Laws.{v-refusal}
 use Rattle.wave_ranges.specs.declared.Turning.{Turning}
@@ -14,7 +14,7 @@ use Rattle.wave_ranges.specs.Ranges.{spotC, insideC, takenC, startC}
 
 pub start-refusal : (t : Turning) (lo : Float) → startC t lo .refusal ≡ nine (startC t lo .value)
 unfolding startC
-start-refusal t lo = simp (checked-rules, rounded)
+start-refusal t lo = simp (checked-rules, rounding-rules)
 
 module _ (t : Turning) (s : Reached) where
   -- whether the next turning point is inside, by where it is

@@ -1,13 +1,13 @@
 -- `Wave::range`: the least and the greatest v of a wave between two places.
 use Prim.Native.Nat.{ℕ}
 use mathlib.Core.Bool.{Bool}
-use lib.Ieee.{Float, binary64, le}
+use lib.Ieee.{Float, le}
 use Rattle.checked.specs.Refusals.{COUNT-TOO-LARGE}
 use Rattle.checked.specs.Checked.{Checked, first, _>>=_, given, finite, num, _⊕_, _⊖_, _⊗_, _⊘_}
 use Rattle.checked.specs.Numbers.{one, pi}
 use Rattle.arctangent.specs.Arctangent.{atan2}
 use Rattle.order.specs.Least.{least, greatest}
-use Rattle.rounding.specs.Whole.{ceil}
+use Rattle.rounding.specs.Computations.{ceilC}
 use Rattle.loops.specs.Loops.{whileC}
 use Rattle.wave_values.specs.Values.{vC}
 use Rattle.wave_ranges.specs.declared.Span.{Span}
@@ -23,9 +23,7 @@ turningC a b c n hi = do
 
 -- the number of the first one not before `lo`
 unfoldable pub startC : Turning → Float → Checked Float
-startC t lo = do
-  q ← (num lo ⊖ num (t .first)) ⊘ num (t .half)
-  finite (ceil binary64 q)
+startC t lo = ceilC ((num lo ⊖ num (t .first)) ⊘ num (t .half))
 
 -- where the k-th one is
 abbrev pub spotC : Turning → Float → Checked Float
