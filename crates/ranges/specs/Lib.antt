@@ -1,4 +1,5 @@
 pub mod Arctangents
 pub mod Quadrants
 pub mod Fitting
+pub mod Arccosines
 pub mod Sines

@@ -9,7 +9,7 @@ use lib.Ieee.Fits.{and-l, and-r, add-fits, sub-fits}
 use lib.Ieee.Bits.{is-true}
 use Rattle.checked.specs.Checked.{isFinite, within, due, num, _⊕_, _⊖_}
 use Rattle.checked.specs.Laws.{settled-none}
-use Rattle.order.specs.Order.{Number, le-numbers, not-lt-le, le-trans-of, lt-not-le, lt-le}
+use Rattle.order.specs.Order.{Number, le-numbers, le-trans-of, lt-le}
 use Rattle.checked.specs.Numbers.{zero, pi, tau}
 use Rattle.arctangent.specs.Arctangent.{atan2}
 use Rattle.vectors.specs.declared.Vec2.{Vec2}
@@ -23,6 +23,7 @@ use Rattle.arcs.specs.declared.Arc.{Arc}
 use Rattle.arcs.specs.Arcs.{sweepFromC, sweepC}
 use Rattle.arcs.specs.Entries.{arcWithin, endsWithin, sweepDue}
 use Rattle.arcs.specs.Laws.{rise, run, sweepFrom-refusal, sweep-refusal}
+use Rattle.bounds.specs.Comparing.{lt-le-trans, le-lt-trans, not-le-lt}
 use Rattle.bounds.specs.Intervals.{In, Upto, in-add, in-sub, in-finite}
 use Rattle.bounds.specs.Powers.{pow, pow-finite, pow-mul, pow-add-of, pow-sub}
 use Rattle.turns.specs.Sizes.{Upto3, three-none, apart2, within-upto3, minus3, dot3, cross3}
@@ -32,21 +33,6 @@ use Rattle.ranges.specs.Quadrants.{Angle, atan2-range}
 abbrev pub Turn : Bool → Float → Type 0
 Turn true v = T (lt zero v) × T (le v tau)
 Turn false v = T (le (neg tau) v) × T (lt v zero)
-
--- ---- comparisons
-
-decided : (b : Bool) → (T (not b) → ⊥) → T b
-decided true h = tt
-decided false h = absurd (h tt)
-
-lt-le-trans : (a b c : Float) → T (lt a b) → T (le b c) → T (lt a c)
-lt-le-trans a b c h k = decided (lt a c) (λ n. lt-not-le a b h (le-trans-of b c a k (not-lt-le a c (le-numbers a b (lt-le a b h) .0) (le-numbers b c k .1) n)))
-
-le-lt-trans : (a b c : Float) → T (le a b) → T (lt b c) → T (lt a c)
-le-lt-trans a b c h k = decided (lt a c) (λ n. lt-not-le b c k (le-trans-of c a b (not-lt-le a c (le-numbers a b h .0) (le-numbers b c (lt-le b c k) .1) n) h))
-
-not-le-lt : (a b : Float) → Number a → Number b → le a b ≡ false → T (lt b a)
-not-le-lt a b A B h = decided (lt b a) (λ n. subst T h (not-lt-le b a B A n))
 
 -- ---- from an angle in [−π, π]
 
