@@ -1,7 +1,17 @@
-// Edge files made in memory and read by the library, as the program `edgebox` reads its input. Each line names a file, or some files that
-// differ in one number, and then has what is printed of it.
+// Edge files from lines of text, read by the library. Each line that is printed names a file, or some files that differ in one number, and then has what
+// `edgebox` prints of it.
+//
+// A line of the input has a name and a colon, then, each after a space, a letter, two numbers of six hexadecimal digits and the bytes of a file. The letter
+// says in what the files from the first number up to the second, which is not one of them, differ:
+//
+//     w  in nothing: it is one file
+//     c  in how many of its bytes are there
+//     t  in the tag of the first record
+//     l  in the length that the first record announces
+//     p  in which number of the first record, counted from 1, has the pattern of the last eight bytes, which do not belong to the file
+ghost use Prim.Native.Nat.{_≤_, _<_};
+ghost use lib.ListN.{length};
 use edge_file::Reading;
-use vectors::Vec3;
 
 // Room for two arcs and two ends.
 const ROOM: usize = 220;
@@ -12,136 +22,116 @@ struct File {
     size: usize,
 }
 
-// The low byte of a number.
-fn low(n: u64) -> u8 {
-    (n % 0x100) as u8
+// What is printed of a file stands at the end of the array.
+struct Line {
+    text: [u8; 160],
+    at: usize,
 }
 
-// The bytes with a number in eight of them, low byte first.
-fn stored(mut bytes: [u8; 220], at: usize, n: u64) -> [u8; 220] {
-    if at < ROOM - 7 {
-        bytes[at] = low(n);
-        bytes[at + 1] = low(n / 0x100);
-        bytes[at + 2] = low(n / 0x1_0000);
-        bytes[at + 3] = low(n / 0x100_0000);
-        bytes[at + 4] = low(n / 0x1_0000_0000);
-        bytes[at + 5] = low(n / 0x100_0000_0000);
-        bytes[at + 6] = low(n / 0x1_0000_0000_0000);
-        bytes[at + 7] = low(n / 0x100_0000_0000_0000);
+// The value of a hexadecimal digit.
+fn digit(b: u8) -> usize
+    ensures { λ r. ⌜ r < 16 ⌝ }
+{
+    if b < 97 {
+        (b % 16) as usize
+    } else {
+        ((b - 87) % 16) as usize
+    }
+}
+
+// The number that two digits spell; 0 where they are not there.
+fn pair(line: &[u8], at: usize) -> usize
+    ensures { λ r. ⌜ r < 256 ⌝ }
+{
+    if at < line.len() {
+        if at + 1 < line.len() {
+            return 16 * digit(line[at]) + digit(line[at + 1]);
+        }
+    }
+    0
+}
+
+// The number that six digits spell.
+fn number(line: &[u8]) -> usize {
+    0x10000 * pair(line, 0) + 0x100 * pair(line, 2) + pair(line, 4)
+}
+
+// The bytes of a file; those past the room are left out.
+fn file_of(line: &[u8]) -> File {
+    let mut bytes = [0u8; 220];
+    let mut size = 0;
+    let mut at = 0;
+    while at < line.len() {
+        if line[at] == b' ' {
+            at += 1;
+        } else {
+            if size < ROOM {
+                bytes[size] = pair(line, at) as u8;
+                size += 1;
+            }
+            if at + 1 < line.len() {
+                at += 2;
+            } else {
+                at += 1;
+            }
+        }
+    }
+    File { bytes, size }
+}
+
+// The bytes with the eight from `from` on put at `to`.
+fn moved(mut bytes: [u8; 220], from: usize, to: usize) -> [u8; 220] {
+    let mut i = 0;
+    while i < 8 {
+        if from < ROOM - i {
+            if to < ROOM - i {
+                bytes[to + i] = bytes[from + i];
+            }
+        }
+        i += 1;
     }
     bytes
 }
 
-impl File {
-    fn begun() -> File {
-        File {
-            bytes: [0; 220],
-            size: 0,
-        }
+// The file where the first record's number n has the pattern of the last eight bytes.
+fn with_number(file: File, n: usize) -> File {
+    let bytes = file.bytes;
+    let size = file.size;
+    if size < 8 {
+        return file;
     }
-
-    // One byte more; nothing more where there is no room, here and below.
-    fn byte(self, n: u64) -> File {
-        let mut bytes = self.bytes;
-        let at = self.size;
-        if at < ROOM {
-            bytes[at] = low(n);
-            File {
-                bytes,
-                size: at + 1,
-            }
-        } else {
-            self
-        }
+    if n == 0 {
+        return file;
     }
-
-    fn number(self, x: f64) -> File {
-        let bytes = self.bytes;
-        let at = self.size;
-        if at < ROOM - 7 {
-            File {
-                bytes: stored(bytes, at, checked::bits(x)),
-                size: at + 8,
-            }
-        } else {
-            self
-        }
+    if n > 13 {
+        return file;
     }
-
-    fn point(self, p: Vec3) -> File {
-        self.number(p.x).number(p.y).number(p.z)
-    }
-
-    fn head(self, tag: u64, length: u64) -> File {
-        self.byte(tag).byte(length).byte(length / 0x100)
-    }
-
-    // The numbers of an arc about the z axis.
-    fn body(self, center: Vec3, radius: f64, from: Vec3, to: Vec3) -> File {
-        let axis = Vec3::new(0.0, 0.0, 1.0);
-        self.point(center)
-            .point(axis)
-            .number(radius)
-            .point(from)
-            .point(to)
-    }
-
-    // The numbers of half a circle of radius 5.
-    fn half_body(self) -> File {
-        let from = Vec3::new(5.0, 0.0, 0.0);
-        let to = Vec3::new(-5.0, 0.0, 0.0);
-        self.body(Vec3::ZERO, 5.0, from, to)
-    }
-
-    fn half(self) -> File {
-        self.head(1, 104).half_body()
-    }
-
-    // A circle of radius 0, whose box is its centre.
-    fn spot(self, x: f64, y: f64, z: f64) -> File {
-        let p = Vec3::new(x, y, z);
-        self.head(1, 104).body(p, 0.0, p, p)
-    }
-
-    // Numbers that are none, as many as an arc has.
-    fn nans(self) -> File {
-        let x = 0.0 / 0.0;
-        let p = Vec3::new(x, x, x);
-        self.point(p).point(p).number(x).point(p).point(p)
-    }
-
-    fn end(self) -> File {
-        self.head(127, 0)
-    }
-
-    // No more than the first bytes.
-    fn cut(self, size: usize) -> File {
-        let bytes = self.bytes;
-        File { bytes, size }
-    }
-
-    // Another bit pattern from some byte on.
-    fn with(self, at: usize, pattern: u64) -> File {
-        let bytes = self.bytes;
-        let size = self.size;
-        File {
-            bytes: stored(bytes, at, pattern),
-            size,
-        }
-    }
-
-    // What is printed of the file.
-    fn line(self) -> Line {
-        let bytes = self.bytes;
-        let size = self.size;
-        line_of(&bytes, size)
+    File {
+        bytes: moved(bytes, size - 8, 8 * n - 5),
+        size: size - 8,
     }
 }
 
-// A line stands at the end of the array.
-struct Line {
-    text: [u8; 160],
-    at: usize,
+// The file that a letter and a number make of one.
+fn changed(file: File, letter: u8, n: usize) -> File {
+    let mut bytes = file.bytes;
+    let size = file.size;
+    let low = (n % 0x100) as u8;
+    let high = (n / 0x100 % 0x100) as u8;
+    if letter == b'c' {
+        File { bytes, size: n }
+    } else if letter == b't' {
+        bytes[0] = low;
+        File { bytes, size }
+    } else if letter == b'l' {
+        bytes[1] = low;
+        bytes[2] = high;
+        File { bytes, size }
+    } else if letter == b'p' {
+        with_number(file, n)
+    } else {
+        file
+    }
 }
 
 // What is printed of a file of the first bytes.
@@ -156,10 +146,11 @@ fn line_of(bytes: &[u8], size: usize) -> Line {
     Line { text, at }
 }
 
-fn write_from(text: &[u8], at: usize) {
-    if at <= text.len() {
-        io::write_all(1, &text[at..]);
-    }
+fn line_at(file: File, letter: u8, n: usize) -> Line {
+    let one = changed(file, letter, n);
+    let bytes = one.bytes;
+    let size = one.size;
+    line_of(&bytes, size)
 }
 
 fn same_from(a: &[u8], i: usize, b: &[u8], j: usize) -> bool {
@@ -171,204 +162,102 @@ fn same_from(a: &[u8], i: usize, b: &[u8], j: usize) -> bool {
     false
 }
 
-impl Line {
-    fn write(self) {
-        let text = self.text;
-        let at = self.at;
-        io::write_all(1, b": ");
-        write_from(&text, at);
-    }
+fn is_same(a: Line, b: Line) -> bool {
+    let text = a.text;
+    let other = b.text;
+    let at = a.at;
+    let from = b.at;
+    same_from(&text, at, &other, from)
+}
 
-    fn is(self, o: Line) -> bool {
-        let text = self.text;
-        let other = o.text;
-        let at = self.at;
-        let from = o.at;
-        same_from(&text, at, &other, from)
+fn write_from(text: &[u8], at: usize) {
+    if at <= text.len() {
+        io::write_all(1, &text[at..]);
     }
 }
 
-fn tell(name: &[u8], file: File) {
-    io::write_all(1, name);
-    file.line().write();
-}
-
-// Lists of files that differ in one number.
-enum Files {
-    // Half a circle and an end, of which so many bytes are there.
-    Cut,
-    // The same of two halves of a circle.
-    CutTwo,
-    // An arc's length and numbers after this tag, then an end.
-    ArcTag,
-    // An end's length after this tag.
-    EndTag,
-    // An arc's tag, this length, and an arc's numbers, then an end.
-    ArcLength,
-    // An end's tag and this length.
-    EndLength,
-    // Half a circle of which this number, by its place from 1 to 13, has the pattern; then an end.
-    Number(u64),
-}
-
-impl Files {
-    fn at(self, n: usize) -> File {
-        let none = File::begun();
-        let i = n as u64;
-        match self {
-            Files::Cut => none.half().end().cut(n),
-            Files::CutTwo => none.half().half().end().cut(n),
-            Files::ArcTag => none.head(i, 104).half_body().end(),
-            Files::EndTag => none.head(i, 0),
-            Files::ArcLength => none.head(1, i).half_body().end(),
-            Files::EndLength => none.head(127, i),
-            Files::Number(pattern) => none.half().end().with(number_at(n), pattern),
-        }
-    }
-}
-
-// Where number n of the first record stands.
-fn number_at(n: usize) -> usize {
-    if n == 0 {
-        ROOM
-    } else if n < 14 {
-        8 * n - 5
-    } else {
-        ROOM
-    }
-}
-
-// Files of a list with the same line, from the first one on.
-struct Run {
-    first: usize,
-    line: Line,
-}
-
-impl Run {
-    // Names the files up to n, which is not one of them.
-    fn tell(self, name: &[u8], n: usize) {
-        let first = self.first;
-        if first < n {
-            let last = n - 1;
-            io::write_all(1, name);
+// Files with the same line, from the first one up to `end`, which is not one of them.
+fn tell(name: &[u8], letter: u8, first: usize, end: usize, line: Line) {
+    let text = line.text;
+    let at = line.at;
+    if first < end {
+        let last = end - 1;
+        io::write_all(1, name);
+        if letter != b'w' {
             io::write_all(1, b" ");
             io::print_decimal(1, first as u64);
-            if first < last {
-                io::write_all(1, b" to ");
-                io::print_decimal(1, last as u64);
-                io::write_all(1, b", ");
-                io::print_decimal(1, (n - first) as u64);
-                io::write_all(1, b" files");
-            }
-            self.line.write();
         }
-    }
-
-    fn next(self, name: &[u8], n: usize, line: Line) -> Run {
-        if line.is(self.line) {
-            self
-        } else {
-            self.tell(name, n);
-            Run { first: n, line }
+        if first < last {
+            io::write_all(1, b" to ");
+            io::print_decimal(1, last as u64);
+            io::write_all(1, b", ");
+            io::print_decimal(1, (end - first) as u64);
+            io::write_all(1, b" files");
         }
+        io::write_all(1, b": ");
+        write_from(&text, at);
     }
 }
 
 // Each file of a list, from one number up to another.
-fn tell_all(name: &[u8], files: Files, from: usize, to: usize) {
-    let mut run = Run {
-        first: from,
-        line: files.at(from).line(),
-    };
+fn tell_all(name: &[u8], file: File, letter: u8, from: usize, to: usize) {
+    let mut first = from;
+    let mut line = line_at(file, letter, from);
     let mut n = from;
     while n < to {
-        run = run.next(name, n, files.at(n).line());
+        let next = line_at(file, letter, n);
+        if !is_same(next, line) {
+            tell(name, letter, first, n, line);
+            first = n;
+            line = next;
+        }
         n += 1;
     }
-    run.tell(name, n);
+    tell(name, letter, first, n, line);
 }
 
-// A file of one circle of radius 0: the coordinates are those of both corners.
-fn tell_spot(name: &[u8], x: f64, y: f64, z: f64) {
-    tell(name, File::begun().spot(x, y, z).end());
+// Where a byte stands first from some place on, or the end of the text.
+fn find(text: &[u8], from: usize, byte: u8) -> usize
+    requires { ⌜ from ≤ length (now text) ⌝ }
+    ensures { λ r. ⌜ (from ≤ r) × (r ≤ length (now (text .entry))) ⌝ }
+{
+    let mut at = from;
+    while at < text.len() {
+        if text[at] == byte {
+            return at;
+        }
+        at += 1;
+    }
+    at
 }
 
-// Each of an arc's thirteen numbers at one pattern.
-fn tell_numbers(name: &[u8], pattern: u64) {
-    tell_all(name, Files::Number(pattern), 1, 14);
+// The files of a line.
+fn tell_line(line: &[u8]) {
+    let colon = find(line, 0, b':');
+    if line.len() - colon >= 17 {
+        let letter = line[colon + 2];
+        let from = number(&line[colon + 4..]);
+        let to = number(&line[colon + 11..]);
+        let file = file_of(&line[colon + 17..]);
+        tell_all(&line[0..colon], file, letter, from, to);
+    }
 }
 
-fn whole_files() {
-    let none = File::begun();
-    tell(b"no byte", none);
-    tell(b"an end", none.end());
-    tell(b"half a circle", none.half().end());
-    tell(b"two arcs", none.half().spot(1.0, 2.0, 3.0).end());
-}
-
-// Corners in thousandths, and corners that are too far out to print.
-fn corners() {
-    let two = File::begun().half().spot(0.0, 0.0, 1000001.0);
-    tell_spot(b"2^-12, 0, -2^-12", 0.000244140625, 0.0, -0.000244140625);
-    tell_spot(b"0.0625, -0, -0.0625", 0.0625, -0.0, -0.0625);
-    tell_spot(b"1.0005, 0.9995, -1.0005", 1.0005, 0.9995, -1.0005);
-    tell_spot(b"1000000", 1000000.0, 0.0, 0.0);
-    tell_spot(b"1000001", 1000001.0, 0.0, 0.0);
-    tell_spot(b"-1000000", 0.0, -1000000.0, 0.0);
-    tell_spot(b"-1000001", 0.0, -1000001.0, 0.0);
-    tell(b"1000001, second of two arcs", two.end());
-}
-
-// Bytes after the end.
-fn after_end() {
-    let none = File::begun();
-    let far = none.spot(1000001.0, 0.0, 0.0);
-    tell(b"a byte after the end", none.half().end().byte(0));
-    tell(b"a byte after an end alone", none.end().byte(0));
-    tell(b"an end after the end", none.half().end().end());
-    tell(b"an arc after the end", none.end().half());
-    tell(b"1000001, a byte after the end", far.end().byte(0));
-}
-
-// The bytes of a record are tried before its numbers, and the first refusal ends the reading.
-fn first_refusals() {
-    let none = File::begun();
-    let far = none.spot(1000001.0, 0.0, 0.0);
-    let bad = none.head(1, 104).nans();
-    tell(b"NaN", bad.end());
-    tell(b"NaN with length 105", none.head(1, 105).nans().end());
-    tell(b"NaN with tag 2", none.head(2, 104).nans().end());
-    tell(b"NaN without the last byte", bad.cut(106));
-    tell(b"NaN and no end", bad);
-    tell(b"NaN, then tag 2", bad.head(2, 0));
-    tell(b"NaN, a byte after the end", bad.end().byte(0));
-    tell(
-        b"tag 2, then NaN",
-        none.head(2, 0).head(1, 104).nans().end(),
-    );
-    tell(b"an arc, then NaN", none.half().head(1, 104).nans().end());
-    tell(b"an arc, then tag 2", none.half().head(2, 104).half_body());
-    tell(b"1000001, then NaN", far.head(1, 104).nans().end());
-    tell(b"1000001 and no end", far);
+fn tell_lines(text: &[u8]) {
+    let mut at = 0;
+    while at < text.len() {
+        let end = find(text, at, b'\n');
+        tell_line(&text[at..end]);
+        if end < text.len() {
+            at = end + 1;
+        } else {
+            at = end;
+        }
+    }
 }
 
 fn main() {
-    whole_files();
-    corners();
-    after_end();
-    first_refusals();
-    tell_all(b"cut at", Files::Cut, 0, 111);
-    tell_all(b"two arcs cut at", Files::CutTwo, 0, 218);
-    tell_all(b"an arc with tag", Files::ArcTag, 0, 256);
-    tell_all(b"an end with tag", Files::EndTag, 0, 256);
-    tell_all(b"an arc with length", Files::ArcLength, 0, 65536);
-    tell_all(b"an end with length", Files::EndLength, 0, 65536);
-    tell_numbers(b"NaN as number", 0x7ff8_0000_0000_0000);
-    tell_numbers(b"signalling NaN as number", 0xfff0_0000_0000_0001);
-    tell_numbers(b"+infinity as number", 0x7ff0_0000_0000_0000);
-    tell_numbers(b"-infinity as number", 0xfff0_0000_0000_0000);
-    tell_numbers(b"next above 1048576 as number", 0x4130_0000_0000_0001);
-    tell_numbers(b"next below -1048576 as number", 0xc130_0000_0000_0001);
-    tell_numbers(b"1048576 as number", 0x4130_0000_0000_0000);
-    tell_numbers(b"-1048576 as number", 0xc130_0000_0000_0000);
+    let mut text = io::large_buffer();
+    let size = io::read_full(0, &mut text);
+    tell_lines(&text[..size]);
 }

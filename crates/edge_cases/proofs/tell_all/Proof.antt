@@ -1,47 +1,45 @@
--- `edge_cases::tell_all` is safe and ends. The measure is the number of files that are left. Assumes nothing.
+-- `edge_cases::tell_all` is safe and ends. Assumes nothing.
 use Prim.Native.Nat.{_-_}
 use native.Mathlib.Omega.{arith}
+use borrow.Author.Needs.{needs}
 use Rattle.edge_cases.proofs.tell_all.Statement.{statement}
 use Rattle.edge_cases.proofs.tell_all.Tie as tie
 
 abbrev Inv-loop : tie.InvT-loop
-Inv-loop name files from to run₀ n₀ run n = Unit {0}
+Inv-loop name file letter from to first₀ line₀ n₀ first line n = Unit {0}
 
 abbrev μ-loop : tie.MeasureT-loop
-μ-loop name files from to run₀ n₀ run n = to - n
+μ-loop name file letter from to first₀ line₀ n₀ first line n = to - n
 
-at-requires : tie.Need-at-requires Inv-loop μ-loop
-at-requires c κs = tt
-
-line-requires : tie.Need-line-requires Inv-loop μ-loop
-line-requires c κs = tt
+line-at-requires : tie.Need-line-at-requires Inv-loop μ-loop
+line-at-requires c κs = search needs
 
 loop-holds : tie.Need-loop-holds Inv-loop μ-loop
-loop-holds c = tt
+loop-holds c = search needs
 
-at-requires-2 : tie.Need-at-requires-2 Inv-loop μ-loop
-at-requires-2 c κs = tt
+line-at-requires-2 : tie.Need-line-at-requires-2 Inv-loop μ-loop
+line-at-requires-2 c κs = search needs
 
-line-requires-2 : tie.Need-line-requires-2 Inv-loop μ-loop
-line-requires-2 c κs = tt
-
-next-requires : tie.Need-next-requires Inv-loop μ-loop
-next-requires c κs = tt
-
-add-n : tie.Need-add-n Inv-loop μ-loop
-add-n c = omega arith
-
-loop-less : tie.Need-loop-less Inv-loop μ-loop
-loop-less c = omega arith
-
-loop-again : tie.Need-loop-again Inv-loop μ-loop
-loop-again c = tt
+is-same-requires : tie.Need-is-same-requires Inv-loop μ-loop
+is-same-requires c κs = search needs
 
 tell-requires : tie.Need-tell-requires Inv-loop μ-loop
-tell-requires c κs = tt
+tell-requires c κs = search needs
+
+add-n : tie.Need-add-n Inv-loop μ-loop
+add-n c = search needs
+
+loop-less : tie.Need-loop-less Inv-loop μ-loop
+loop-less c = search needs
+
+loop-again : tie.Need-loop-again Inv-loop μ-loop
+loop-again c = search needs
+
+tell-requires-2 : tie.Need-tell-requires-2 Inv-loop μ-loop
+tell-requires-2 c κs = search needs
 
 returns : tie.Need-returns Inv-loop μ-loop
-returns c = tt
+returns c = search needs
 
 pub tell-all-spec : {M : Type 1} → statement M
 tell-all-spec =
@@ -49,14 +47,13 @@ tell-all-spec =
     (tie.spec
     Inv-loop
     μ-loop
-    at-requires
-    line-requires
+    line-at-requires
     loop-holds
-    at-requires-2
-    line-requires-2
-    next-requires
+    line-at-requires-2
+    is-same-requires
+    tell-requires
     add-n
     loop-less
     loop-again
-    tell-requires
+    tell-requires-2
     returns)
