@@ -6,6 +6,9 @@ const EDGE: u8 = 1;
 const EDGE_LENGTH: usize = 104;
 const END: u8 = 127;
 
+/// The bytes of an edge's record.
+pub const RECORD: usize = 3 + EDGE_LENGTH;
+
 const OUT_OF_RANGE: u32 = 1;
 const COUNT_TOO_LARGE: u32 = 10;
 const MALFORMED: u32 = 11;

@@ -46,6 +46,7 @@ mod traces;
 mod vectors;
 
 use std::io::Write;
+use std::os::fd::AsFd;
 
 use entry::Entry;
 
@@ -133,7 +134,9 @@ fn main() {
         "hash" => compare::hash(&entries, chosen.count.unwrap_or(50_000), chosen.seed),
         "bench" => bench::bench(&entries, chosen.seed),
         "edgebox" => {
-            println!("{}", edges::line(std::io::stdin().lock(), edges::by_rust));
+            // One record in memory and one read for each, as the port has it; standard input's own buffer would hold eighty.
+            let input = std::fs::File::from(std::io::stdin().as_fd().try_clone_to_owned().expect("standard input"));
+            println!("{}", edges::line(std::io::BufReader::with_capacity(edges::RECORD, input), edges::by_rust));
             true
         }
         "fuzz" => fuzz::fuzz(&chosen.program, chosen.count.unwrap_or(1_000_000), chosen.seed, 2),
