@@ -214,7 +214,7 @@ fn near(c: Course, q: Vec3) -> f64
 }
 
 // u and v where the generatrix at t ends at q.
-fn placed(c: Course, t: f64, q: Vec3) -> CheckedVec2
+pub fn placed(c: Course, t: f64, q: Vec3) -> CheckedVec2
     ensures refusal { λ r. ⌜ r .refusal ≡ placedC c t q .refusal ⌝ }
     ensures value { λ r. ⌜ r .value ≡ placedC c t q .value ⌝ }
 {

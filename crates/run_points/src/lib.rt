@@ -42,7 +42,7 @@ fn straight_at(from: Vec2, to: Vec2, t: f64) -> CheckedPlace
     }
 }
 
-fn swing(a: ProfileArc, from: Vec2, to: Vec2, t: f64) -> CheckedSwung
+pub fn swing(a: ProfileArc, from: Vec2, to: Vec2, t: f64) -> CheckedSwung
     ensures refusal { λ r. ⌜ r .refusal ≡ swungC a from to t .refusal ⌝ }
     ensures value { λ r. ⌜ r .value ≡ swungC a from to t .value ⌝ }
 {
