@@ -15,6 +15,7 @@ use crate::inputs::rigid;
 use crate::inputs::vec2;
 use crate::inputs::vec3;
 use answer_lines::pattern;
+use answer_lines::refusal;
 use motions::Rigid;
 use profiles::ProfileArc;
 
@@ -92,20 +93,49 @@ fn of_arcs(operation: u64, line: &[u8]) -> bool {
 // The longest row of the list.
 const ROW: usize = 256;
 
-fn is_drawn(line: &[u8], row: &mut [f64]) -> bool {
-    let mut refusal = 0;
+// What a row holds before the call; no point has such a number.
+const HELD: f64 = 123456.789;
+
+fn is_part(line: &[u8], row: &mut [f64]) -> bool {
+    let mut met = 0;
     let part = arc(line).inner_points(
         vec3(line, 7),
         vec3(line, 10),
         number(line, 13),
         row,
-        &mut refusal,
+        &mut met,
     );
-    is_row(line, refusal, part)
+    is_row(line, met, part)
+}
+
+// Whether the row keeps what it held, from k on.
+fn is_kept(row: &[f64], k: usize) -> bool {
+    let mut is_old = true;
+    let mut i = k;
+    while i < row.len() {
+        is_old = is_old & (row[i] == HELD);
+        i += 1;
+    }
+    is_old
+}
+
+// How many numbers are written where the line is met.
+fn written(line: &[u8]) -> usize {
+    if refusal(line) == 0 {
+        pattern(line, 15) as usize
+    } else {
+        0
+    }
+}
+
+// The written part is the line's, and the rest of the row keeps what it held: all of it where the call is refused.
+fn is_drawn(line: &[u8], row: &mut [f64]) -> bool {
+    let is_written = is_part(line, &mut *row);
+    is_written & is_kept(&*row, written(line))
 }
 
 fn inner_points(line: &[u8]) -> bool {
-    let mut row = [0.0; ROW];
+    let mut row = [HELD; ROW];
     let n = pattern(line, 14);
     if n <= ROW as u64 {
         is_drawn(line, &mut row[..n as usize])

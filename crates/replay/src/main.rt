@@ -1,4 +1,5 @@
-// Runs the list of the Rust's answers against the port: one line for each operation, and one for each call whose answer is another.
+// Runs two lists against the port, the Rust's answers and cases worked out by hand: one line for each operation, and one for each call
+// whose answer is another.
 use bytes::scan::find;
 use std::num::wrapping_add_u32;
 use std::num::wrapping_add_u64;
@@ -196,12 +197,17 @@ fn replay(fd: i32) {
     all.print();
 }
 
-fn main() {
-    let fd = os::open_read(b"answers.txt");
+fn run(list: &[u8]) {
+    let fd = os::open_read(list);
     if fd < 0 {
-        os::fail(b"answers.txt");
+        os::fail(list);
         return;
     }
     replay(fd);
     libc::close(fd);
+}
+
+fn main() {
+    run(b"answers.txt");
+    run(b"trials.txt");
 }
