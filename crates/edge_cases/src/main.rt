@@ -1,14 +1,16 @@
-// Edge files from lines of text, read by the library. Each line that is printed names a file, or some files that differ in one number, and then has what
-// `edgebox` prints of it.
+// Edge files from lines of text, read by the library. Each line that is printed names a file, or
+// some files that differ in one number, and then has what `edgebox` prints of it.
 //
-// A line of the input has a name and a colon, then, each after a space, a letter, two numbers of six hexadecimal digits and the bytes of a file. The letter
-// says in what the files from the first number up to the second, which is not one of them, differ:
+// A line of the input has a name and a colon, then, each after a space, a letter, two numbers of
+// six hexadecimal digits and the bytes of a file. The letter says in what the files from the first
+// number up to the second, which is not one of them, differ:
 //
 //     w  in nothing: it is one file
 //     c  in how many of its bytes are there
 //     t  in the tag of the first record
 //     l  in the length that the first record announces
-//     p  in which number of the first record, counted from 1, has the pattern of the last eight bytes, which do not belong to the file
+//     p  in which number of the first record, counted from 1, has the pattern of the last eight
+//        bytes, which do not belong to the file
 ghost use Prim.Native.Nat.{_≤_, _<_};
 ghost use lib.ListN.{length};
 use edge_file::Reading;

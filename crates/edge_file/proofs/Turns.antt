@@ -9,7 +9,8 @@ use Rattle.edge_file.specs.declared.Reading.{Reading}
 use Rattle.edge_file.specs.Steps.{lineOn, step, dueOf, Fed}
 use Rattle.edge_file.specs.Cutting.{stepped, left-over, due-within, due-little, OpenAfter, step-open, open-more, none-due}
 
--- After the first `used` bytes the reading r stands, the next step takes `size` bytes, and the line is that of the reading r₀ before them.
+-- After the first `used` bytes the reading r stands, the next step takes `size` bytes, and the line
+-- is that of the reading r₀ before them.
 pub record Taking (r₀ : Reading) (bytes : List ℕ) (r : Reading) (used size : ℕ) : Type 0 where
   pub fits : used + size ≤ length bytes
   pub due : size ≡ dueOf r (drop used bytes)

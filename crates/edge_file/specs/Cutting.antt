@@ -1,5 +1,6 @@
--- A file is read record by record: `stepped` is the law of one step, `left-over` that of what is left. Then stepping through the records of a file gives the
--- file's line (`by-steps`), and so does reading it piece by piece, whatever the pieces are (`by-pieces`). Assumes nothing.
+-- A file is read record by record: `stepped` is the law of one step, `left-over` that of what is
+-- left. Then stepping through the records of a file gives the file's line (`by-steps`), and so does
+-- reading it piece by piece, whatever the pieces are (`by-pieces`). Assumes nothing.
 use Prim.Native.Nat.{ℕ, zero, suc, _+_, _≤_, _<_}
 use mathlib.Core.Path.{_≡_, refl, sym, ap, _∙_, subst}
 use mathlib.Core.Bool.{Bool, true, false, not}
@@ -153,7 +154,7 @@ pub due-little : (r : Reading) (file : List ℕ) → dueOf r file ≡ 0 → leng
 unfolding dueOf
 due-little r file e = due-little-by (r .status) file e
 
--- ---- after a step the reading is open only where the step took an edge's record; else all bytes are due
+-- ---- after a step the reading is open only where the step took an edge's record
 abbrev pub OpenAfter : Status → ℕ → Type 0
 OpenAfter status.Open n = shortest ≤ n
 OpenAfter status.Ended n = Unit {0}
@@ -182,7 +183,8 @@ open-more status.Open m n l h = omega arith
 open-more status.Ended m n l h = tt
 open-more (status.Refused k) m n l h = tt
 
--- where no step is due, the reading is over and no byte is left, or it is open and an edge's record was taken
+-- where no step is due, the reading is over and no byte is left, or it is open and an edge's record
+-- was taken
 none-due-by : (st : Status) (used : ℕ) (bytes : List ℕ) → dueBy st (drop used bytes) ≡ 0 → used ≤ length bytes → OpenAfter st used → length bytes ≤ shortest → used ≡ length bytes
 none-due-by status.Open used bytes e w h l = omega arith
 none-due-by status.Ended used bytes e w h l = omega (arith, length-drop used bytes)
@@ -192,7 +194,8 @@ pub none-due : (r : Reading) (used : ℕ) (bytes : List ℕ) → dueOf r (drop u
 unfolding dueOf
 none-due r used bytes e w h l = none-due-by (r .status) used bytes e w h l
 
--- ---- step by step: the records that a file is cut into, at most n of them, and last what is left where no record stands whole
+-- ---- step by step: the records that a file is cut into, at most n of them, and last what is left
+-- where no record stands whole
 abbrev pub cutOff : Bool → ℕ → List ℕ → (List ℕ → List (List ℕ)) → List (List ℕ)
 cutOff true size file more = file ∷ []
 cutOff false size file more = take size file ∷ more (drop size file)
@@ -256,7 +259,8 @@ pub by-steps : (file : List ℕ) → lineOn (steps begun (recordsOf (length file
 unfolding lineOn lineOf
 by-steps file = steps-line (length file) begun file (omega arith)
 
--- ---- piece by piece: what the steps left of the bytes so far stands before the next piece, until no more come or a refusal ends the reading
+-- ---- piece by piece: what the steps left of the bytes so far stands before the next piece, until
+-- no more come or a refusal ends the reading
 unfoldable pub joined : List (List ℕ) → List ℕ
 joined [] = []
 joined (p ∷ ps) = p ++ joined ps

@@ -23,7 +23,8 @@ callOf e b = extendDue (e .arc) (e .from) (e .to) b
 abbrev pub nothing : Seen
 nothing = record { «has_edge» = false; bounds = empty }
 
--- the number of the record after record k; the count ends at 2^64 - 1, which a file of 2^70 bytes would reach
+-- the number of the record after record k; the count ends at 2^64 - 1, which a file of 2^70 bytes
+-- would reach
 unfoldable pub next : ℕ → ℕ
 next k = min (k + 1) (2 ^ 64 - 1)
 

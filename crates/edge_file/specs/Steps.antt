@@ -54,7 +54,8 @@ stepBy (status.Refused n) r bytes = r
 unfoldable pub step : Reading → List ℕ → Reading
 step r bytes = stepBy (r .status) r bytes
 
--- how many bytes the next step takes: one record; all of them once the reading is over; 0 where a record is not whole
+-- how many bytes the next step takes: one record; all of them once the reading is over; 0 where a
+-- record is not whole
 abbrev pub dueBy : Status → List ℕ → ℕ
 dueBy status.Open bytes = sizeOf bytes
 dueBy status.Ended bytes = length bytes
@@ -72,9 +73,10 @@ refusedBy (status.Refused n) = true
 unfoldable pub isRefused : Reading → Bool
 isRefused r = refusedBy (r .status)
 
--- Some bytes are read, and `used` of them are taken: whatever follows, the line stays the same; and if nothing follows, the bytes that are not taken do
--- not count, since no record stands whole in them. Fewer are left than the longest record has; and of no more than the shortest record of an edge has, either
--- all are taken or none.
+-- Some bytes are read, and `used` of them are taken: whatever follows, the line stays the same; and
+-- if nothing follows, the bytes that are not taken do not count, since no record stands whole in
+-- them. Fewer are left than the longest record has; and of no more than the shortest record of an
+-- edge has, either all are taken or none.
 pub record Fed (r : Reading) (bytes : List ℕ) (r' : Reading) (used : ℕ) : Type 0 where
   pub on : (rest : List ℕ) → lineOn r' (drop used bytes ++ rest) ≡ lineOn r (bytes ++ rest)
   pub over : lineOn r' (drop used bytes) ≡ lineOn r' []

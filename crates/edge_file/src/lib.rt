@@ -25,7 +25,8 @@ pub enum Status {
     Refused(u8),
 }
 
-// A file that is being read. The number is that of the record that comes next, or of the one at which the reading ended.
+// A file that is being read. The number is that of the record that comes next, or of the one at
+// which the reading ended.
 pub struct Reading {
     pub seen: Seen,
     pub number: u64,

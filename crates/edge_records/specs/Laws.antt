@@ -1,4 +1,5 @@
--- A file is cut where its records end: the first record is the same with and without the bytes that follow it. Assumes nothing.
+-- A file is cut where its records end: the first record is the same with and without the bytes that
+-- follow it. Assumes nothing.
 use mathlib.Core.Path.{_≡_, refl, sym, ap, _∙_, subst}
 use mathlib.Core.Bool.{Bool, true, false, cond}
 use mathlib.Core.List.{List, [], _∷_, _++_}
@@ -15,7 +16,8 @@ use Rattle.edge_records.specs.declared.Kind.the-variants as kind
 use Rattle.edge_records.specs.declared.Record.{Record}
 use Rattle.edge_records.specs.declared.Record.the-variants as first
 
--- ---- a record of the kind that a head announces is as long as its head and the length, and no longer than the longest
+-- ---- a record of the kind that a head announces is as long as its head and the length, and no
+-- longer than the longest
 pub tagged-size : (t : ℕ) → sizeOfKind (tagged t) ≡ 3 + lengthOf (tagged t)
 unfolding tagged
 tagged-size t = go (eqb t 1) (eqb t 127)

@@ -1,4 +1,5 @@
--- The records of an edge file. A record is a tag byte, a length of two bytes, low byte first, and as many bytes as the length says.
+-- The records of an edge file. A record is a tag byte, a length of two bytes, low byte first, and
+-- as many bytes as the length says.
 use Prim.Native.Nat.{ℕ, _+_, _*_}
 use mathlib.Core.Bool.{cond, _&&_}
 use mathlib.Core.List.{List, [], _∷_}
@@ -43,7 +44,8 @@ lengthOf kind.Short = 0
 unfoldable pub headOf : ℕ → ℕ → Kind
 headOf tag size = let k = tagged tag in cond (eqb size (lengthOf k)) k kind.Unknown
 
--- what the first record of a file is, by its head; short where the head, or what it announces, is not all there
+-- what the first record of a file is, by its head; short where the head, or what it announces, is
+-- not all there
 unfoldable pub kindOf : List ℕ → Kind
 kindOf [] = kind.Short
 kindOf (t ∷ []) = kind.Short
@@ -58,7 +60,8 @@ edgeOf body = record {
   to = pointAt 80 body;
 }
 
--- the first record of a file; malformed where its tag or its length is not known, and where it is cut short
+-- the first record of a file; malformed where its tag or its length is not known, and where it is
+-- cut short
 abbrev pub ofKind : Kind → List ℕ → Record
 ofKind kind.Arc body = first.Edge (edgeOf body)
 ofKind kind.End body = first.End
@@ -69,7 +72,8 @@ unfoldable pub recordOf : List ℕ → Record
 recordOf file = ofKind (kindOf file) (drop 3 file)
 
 -- ---- how a file is cut into records
--- the bytes of a record of a kind: its head and what follows it; an unknown head is taken by itself, and nothing of a record that is cut short
+-- the bytes of a record of a kind: its head and what follows it; an unknown head is taken by
+-- itself, and nothing of a record that is cut short
 abbrev pub sizeOfKind : Kind → ℕ
 sizeOfKind kind.Arc = 3 + lengthOf kind.Arc
 sizeOfKind kind.End = 3

@@ -159,7 +159,8 @@ pub fn record_of(bytes: &[u8]) -> Record
     }
 }
 
-// How many of the bytes the first record takes, and 0 where it goes on past them. A head that announces nothing known is taken by itself.
+// How many of the bytes the first record takes, and 0 where it goes on past them. A head that
+// announces nothing known is taken by itself.
 pub fn size_of(bytes: &[u8]) -> usize
     ensures { λ r. ⌜ r ≡ sizeOf (now (bytes .entry)) ⌝ }
 {

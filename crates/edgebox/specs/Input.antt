@@ -10,8 +10,9 @@ use Rattle.edge_file.specs.EdgeFile.{lineOf}
 use Rattle.edge_file.specs.Steps.{lineOn, isRefused}
 use Rattle.edge_file.specs.declared.Reading.{Reading}
 
--- The reading r takes the bytes of a read, and q follows: as many as an edge's record has are taken whole, whatever comes after them; fewer are the last of the
--- file, and the line is that of a file which ends with them.
+-- The reading r takes the bytes of a read, and q follows: as many as an edge's record has are taken
+-- whole, whatever comes after them; fewer are the last of the file, and the line is that of a file
+-- which ends with them.
 pub record Took (r : Reading) (bytes : List ℕ) (q : Reading) : Type 0 where
   pub on : length bytes ≡ shortest → (rest : List ℕ) → lineOn q rest ≡ lineOn r (bytes ++ rest)
   pub over : lineOn q [] ≡ lineOn r bytes

@@ -1,4 +1,5 @@
-// Reads an edge file from standard input, and prints its line: the box of its edges, or why there is none.
+// Reads an edge file from standard input, and prints its line: the box of its edges, or why there
+// is none.
 ghost use mathlib.Core.Path.{_≡_};
 ghost use lib.ListN.{length};
 ghost use Rattle.edge_records.specs.Records.{shortest};
@@ -34,9 +35,10 @@ fn take(reading: Reading, bytes: &[u8]) -> Turn
     }
 }
 
-// Reads record by record until the input is over, or a refusal ends the reading. Another record can follow only an edge's, so a read asks for as many
-// bytes as that has: no more than one record is in memory, and the bytes after the end record are in its read.
-// Nothing says that an input ends, so the reads are counted down from a number that no run uses up.
+// Reads record by record until the input is over, or a refusal ends the reading. Another record can
+// follow only an edge's, so a read asks for as many bytes as that has: no more than one record is
+// in memory, and the bytes after the end record are in its read. Nothing says that an input ends,
+// so the reads are counted down from a number that no run uses up.
 fn read_all(buf: &mut [u8]) -> Reading
     requires { ⌜ length (now buf) ≡ shortest ⌝ }
     ensures { λ r. ⌜ HasRead r ⌝ }

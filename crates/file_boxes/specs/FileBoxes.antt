@@ -1,4 +1,5 @@
--- Files of arcs none of which is refused: the line is that of the box that their calls leave, whichever arc stands first. Assumes nothing.
+-- Files of arcs none of which is refused: the line is that of the box that their calls leave,
+-- whichever arc stands first. Assumes nothing.
 use Prim.Native.Nat.{ℕ, zero, suc, _+_, _-_, _*_, _/_, _<_, _≤_}
 use native.Mathlib.Nat.{mul-comm, mul-assoc, mul-right-comm, mul-div-mul-right, add-mul, mul-pos}
 use native.Mathlib.Omega.{arith}
@@ -167,7 +168,8 @@ same-corners : (a b c d : Vec3) (j k : ℕ) → thousandths (a .x) ≡ thousandt
 unfolding boxLine corner
 same-corners a b c d j k p q r s t u e = rw (p, q, r, s, t, u, e)
 
--- Two files of the same arcs, none of them refused, and of the same number of records print the same line, whichever arc stands first.
+-- Two files of the same arcs, none of them refused, and of the same number of records print the
+-- same line, whichever arc stands first.
 pub one-line : {f g : List ℕ} (c e : Edge) (cs es : List Edge) → FileOf f (c ∷ cs) → FileOf g (e ∷ es) → NoneRefused (c ∷ cs) → NoneRefused (e ∷ es)
     → SameAccepted handed points (map asCall (c ∷ cs)) (map asCall (e ∷ es)) → endAfter 1 (c ∷ cs) ≡ endAfter 1 (e ∷ es) → lineOf f ≡ lineOf g
 one-line c e cs es F G H J A n =

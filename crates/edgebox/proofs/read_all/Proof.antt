@@ -1,4 +1,5 @@
--- `edgebox::read_all` meets its contract. The loop's invariant: the reading has taken what came in. The measure is how many reads are left. Assumes nothing.
+-- `edgebox::read_all` meets its contract. The loop's invariant: the reading has taken what came in.
+-- The measure is how many reads are left. Assumes nothing.
 use mathlib.Core.Path.{_≡_, refl, sym, _∙_}
 use native.Mathlib.Omega.{arith}
 use lib.ListN.{length}

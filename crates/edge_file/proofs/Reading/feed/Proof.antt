@@ -1,4 +1,5 @@
--- `edge_file::Reading::feed` meets its contract. The loop's invariant is `Taking`; the measure is how many bytes are left. Assumes nothing.
+-- `edge_file::Reading::feed` meets its contract. The loop's invariant is `Taking`; the measure is
+-- how many bytes are left. Assumes nothing.
 use Prim.Native.Nat.{_-_}
 use native.Mathlib.Omega.{arith}
 use lib.ListN.{length}
