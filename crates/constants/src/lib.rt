@@ -1,0 +1,59 @@
+// Constants of the code, given back beside the definitions that they equal: a program that wants them takes them from their own crates.
+ghost use mathlib.Core.Path.{_≡_};
+ghost use Rattle.vectors.specs.Vectors.{origin};
+ghost use Rattle.counts.specs.Counts as Counts;
+ghost use Rattle.constants.specs.Constants as Constants;
+use checked::ANGLE_TOO_LARGE;
+use checked::ARC_AND_TRACE;
+use checked::BAD_BOX_OR_SUMS;
+use checked::BAD_TOLERANCE;
+use checked::COUNT_TOO_LARGE;
+use checked::FRAC_PI_4;
+use checked::MALFORMED_FILE;
+use checked::NEUTRAL_NOT_POSITIVE;
+use checked::NOT_FINITE;
+use checked::OUT_OF_RANGE;
+use checked::PI;
+use checked::PIECE_ON_CONE;
+use checked::ROW_TOO_SHORT;
+use checked::TAU;
+use vectors::Vec3;
+
+// The refusals in the order of their numbers.
+pub fn refusals() -> [u8; 11]
+    ensures { λ r. ⌜ r ≡ Constants.refusals ⌝ }
+{
+    [
+        OUT_OF_RANGE,
+        NEUTRAL_NOT_POSITIVE,
+        ARC_AND_TRACE,
+        BAD_BOX_OR_SUMS,
+        BAD_TOLERANCE,
+        ROW_TOO_SHORT,
+        PIECE_ON_CONE,
+        ANGLE_TOO_LARGE,
+        NOT_FINITE,
+        COUNT_TOO_LARGE,
+        MALFORMED_FILE,
+    ]
+}
+
+// π, 2π and π/4.
+pub fn angles() -> [f64; 3]
+    ensures { λ r. ⌜ r ≡ Constants.angles ⌝ }
+{
+    [PI, TAU, FRAC_PI_4]
+}
+
+pub fn zero() -> Vec3
+    ensures { λ r. ⌜ r ≡ origin ⌝ }
+{
+    Vec3::ZERO
+}
+
+// The most chords or pieces.
+pub fn most() -> u16
+    ensures { λ r. ⌜ r ≡ Counts.MOST ⌝ }
+{
+    counts::MOST
+}
