@@ -1,4 +1,5 @@
-// Angles turned about a centre, for numbers of any size. A turn that is not finite is for the caller to note.
+// Angles turned about a centre, for numbers of any size. A turn that is not finite is for the
+// caller to note.
 ghost use mathlib.Core.Path.{_≡_};
 ghost use Rattle.angles.specs.Angles.{angleC, aheadC, backC};
 use arctangent::atan2;
@@ -6,7 +7,8 @@ use checked::CheckedNumber;
 use checked::TAU;
 use checked::note;
 
-// The angle of the direction (x, y), in [-π, π]. The two numbers are noted, and so is what they give.
+// The angle of the direction (x, y), in [-π, π]. The two numbers are noted, and so is what they
+// give.
 pub fn angle(y: f64, x: f64) -> CheckedNumber
     ensures refusal { λ r. ⌜ r .refusal ≡ angleC y x .refusal ⌝ }
     ensures value { λ r. ⌜ r .value ≡ angleC y x .value ⌝ }

@@ -1,5 +1,6 @@
--- The arc of an edge: counterclockwise about `axis`, around `center`, from the direction of one point to that of another. Its
--- parts stand in the formulas of crates sweeps, spokes, extremes and cuts.
+-- The arc of an edge: counterclockwise about `axis`, around `center`, from the direction of one
+-- point to that of another. Its parts stand in the formulas of crates sweeps, spokes, extremes and
+-- cuts.
 use Rattle.checked.specs.Checked.{Checked, first, _>>=_, given}
 use Rattle.vectors.specs.Vectors.{negC}
 use Rattle.arcs.specs.declared.Arc.{Arc}

@@ -1,4 +1,5 @@
--- What the entries on arcs are due to answer: the numbers handed in are tried, then the formula is worked out.
+-- What the entries on arcs are due to answer: the numbers handed in are tried, then the formula is
+-- worked out.
 use Prim.Native.Nat.{ℕ}
 use mathlib.Core.Bool.{Bool, not}
 use mathlib.Core.List.{List}

@@ -1,4 +1,5 @@
-// An arc's formulas on numbers of any size; those of its sweep, points and box are in the crates below, on its parts.
+// An arc's formulas on numbers of any size; those of its sweep, points and box are in the crates
+// below, on its parts.
 ghost use mathlib.Core.Path.{_≡_};
 ghost use Rattle.arcs.specs.Arcs.{reversedC};
 use crate::Arc;

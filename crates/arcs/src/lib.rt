@@ -1,4 +1,5 @@
-// The arc of an edge: what a program may call. The formulas are in crates sweeps, spokes, extremes and cuts, on the parts of an arc.
+// The arc of an edge: what a program may call. The formulas are in crates sweeps, spokes, extremes
+// and cuts, on the parts of an arc.
 ghost use mathlib.Core.Path.{_≡_};
 ghost use Rattle.checked.specs.Checked.{numberDue, settled};
 ghost use Rattle.vectors.specs.Entries.{vectorDue};
@@ -70,7 +71,8 @@ impl Arc {
         }
     }
 
-    // The angle turned counterclockwise about the axis from one point to another; one point twice is a full circle.
+    // The angle turned counterclockwise about the axis from one point to another; one point twice
+    // is a full circle.
     pub fn sweep(self, from: Vec3, to: Vec3) -> Number
         ensures { λ r. ⌜ numberDue r ≡ sweepDue self from to ⌝ }
     {
@@ -92,7 +94,8 @@ impl Arc {
         }
     }
 
-    // The box widened by the arc from one point to another: both ends, and the points extreme along an axis that lie on it.
+    // The box widened by the arc from one point to another: both ends, and the points extreme along
+    // an axis that lie on it.
     pub fn extended(self, from: Vec3, to: Vec3, bounds: Bounds) -> Widened
         ensures { λ r. ⌜ widenedDue r ≡ extendDue self from to bounds ⌝ }
     {
@@ -124,7 +127,8 @@ impl Arc {
         boxes::after(bounds, self.extended(from, to, bounds))
     }
 
-    // The lent box widened by the arc: 0 where it is accepted, else the refusal's number, and the box is as it was.
+    // The lent box widened by the arc: 0 where it is accepted, else the refusal's number, and the
+    // box is as it was.
     pub fn extend_bounds(self, from: Vec3, to: Vec3, bounds: &mut Bounds) -> u8
         ensures { λ r. ⌜ Lent (extendDue self from to) (now (bounds .entry)) r (now (bounds .exit)) ⌝ }
     {
@@ -133,8 +137,9 @@ impl Arc {
         end.number
     }
 
-    // The points of the arc from one point to another for drawing, both ends excluded, at most `chord` off it (within 12 to 64 chords
-    // a turn): three numbers each from the row's start. A refusal leaves the row as it was.
+    // The points of the arc from one point to another for drawing, both ends excluded, at most
+    // `chord` off it (within 12 to 64 chords a turn): three numbers each from the row's start. A
+    // refusal leaves the row as it was.
     pub fn write_inner_points(self, from: Vec3, to: Vec3, chord: f64, row: &mut [f64]) -> Written
         ensures { λ r. ⌜ Drawn (innerPointsDue self from to chord (length (now (row .entry)))) (now (row .entry)) (now (row .exit)) (r .refusal) (r .points) ⌝ }
     {
@@ -165,7 +170,8 @@ impl Arc {
         }
     }
 
-    // The same; the answer is the written part of the row, empty where it is refused, and the refusal's number or 0 goes to `refusal`.
+    // The same; the answer is the written part of the row, empty where it is refused, and the
+    // refusal's number or 0 goes to `refusal`.
     pub fn inner_points<'a>(
         self,
         from: Vec3,

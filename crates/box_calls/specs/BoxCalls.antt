@@ -1,4 +1,5 @@
--- Where any list of box calls leaves the box. The contracts of the box calls equate their answers with `call`. Assumes nothing.
+-- Where any list of box calls leaves the box. The contracts of the box calls equate their answers
+-- with `call`. Assumes nothing.
 use mathlib.Core.Path.{_≡_, refl}
 use mathlib.Core.List.{List}
 use lib.Dec.{T}

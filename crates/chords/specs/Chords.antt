@@ -20,8 +20,8 @@ acosC m = do
   x ← m
   finite (acos x)
 
--- where the chord is below the radius: π over half the angle of a chord that is `chord` off the circle. The quotient is infinite
--- for a chord of 0, and is not tried.
+-- where the chord is below the radius: π over half the angle of a chord that is `chord` off the
+-- circle. The quotient is infinite for a chord of 0, and is not tried.
 unfoldable pub quotientC : Float → Float → Checked Float
 quotientC radius chord = do
   a ← acosC (num one ⊖ num chord ⊘ num radius)

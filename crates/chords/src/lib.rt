@@ -1,4 +1,5 @@
-// How many chords a circle is drawn with: what a program may call is here, the bare formulas are in `formula`.
+// How many chords a circle is drawn with: what a program may call is here, the bare formulas are in
+// `formula`.
 ghost use mathlib.Core.Path.{_≡_};
 ghost use mathlib.Core.Bool.{_&&_};
 ghost use Rattle.checked.specs.Checked.{numberDue, within};

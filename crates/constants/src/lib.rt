@@ -1,4 +1,5 @@
-// Constants of the code, given back beside the definitions that they equal: a program that wants them takes them from their own crates.
+// Constants of the code, given back beside the definitions that they equal: a program that wants
+// them takes them from their own crates.
 ghost use mathlib.Core.Path.{_≡_};
 ghost use Rattle.vectors.specs.Vectors.{origin};
 ghost use Rattle.counts.specs.Counts as Counts;

@@ -1,4 +1,5 @@
--- Whole numbers up to a limit from floats, for any limit that an f64 holds exactly. Assumes nothing.
+-- Whole numbers up to a limit from floats, for any limit that an f64 holds exactly. Assumes
+-- nothing.
 use Prim.Native.Nat.{ℕ, zero, suc, _+_, _*_, _/_, _-_, _^_, _≤_, _<_, min}
 use mathlib.Core.Path.{_≡_, refl, sym, _∙_, ap, subst}
 use mathlib.Core.Logic.{_⊎_, inl, inr}

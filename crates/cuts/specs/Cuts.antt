@@ -1,4 +1,5 @@
--- Points of an arc for drawing, both ends excluded: into how many chords it is cut, and the points between them.
+-- Points of an arc for drawing, both ends excluded: into how many chords it is cut, and the points
+-- between them.
 use Prim.Native.Nat.{ℕ, _-_}
 use mathlib.Core.Bool.{Bool, _&&_}
 use mathlib.Core.List.{List}

@@ -1,4 +1,5 @@
--- Which notes of a cut suffice, and an arc's inner points as those of a rim that is worked out once. Assumes nothing.
+-- Which notes of a cut suffice, and an arc's inner points as those of a rim that is worked out
+-- once. Assumes nothing.
 use Prim.Native.Nat.{ℕ, _-_}
 use mathlib.Core.Path.{_≡_, refl, sym, _∙_, ap, ap₂}
 use mathlib.Core.Bool.{Bool, true, false, _&&_}

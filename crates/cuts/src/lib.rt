@@ -1,4 +1,5 @@
-// An arc's points for drawing, on numbers of any size: how it is cut, and its inner points written to a lent row.
+// An arc's points for drawing, on numbers of any size: how it is cut, and its inner points written
+// to a lent row.
 ghost use mathlib.Core.Path.{_≡_};
 ghost use lib.ListN.{length};
 ghost use Rattle.rows.specs.Rows.{Drawn};

@@ -1,5 +1,5 @@
--- The points by which an arc widens a box: its ends, and those of its circle's extreme points that lie on it. The circle lies
--- across `axis`, around `center`.
+-- The points by which an arc widens a box: its ends, and those of its circle's extreme points that
+-- lie on it. The circle lies across `axis`, around `center`.
 use mathlib.Core.Bool.{cond}
 use mathlib.Core.List.{List, [], _∷_}
 use lib.Ieee.{Float, lt, neg}
@@ -15,7 +15,8 @@ use Rattle.sweeps.specs.Sweeps.{sweepC}
 unfoldable pub sideC : Vec3 → Float → Vec3 → Float → Float → Checked Vec3
 sideC center radius w len s = vec center ⊞ vec w ⊠ (num s ⊗ num radius ⊘ num len)
 
--- A candidate is taken where its sweep is less than the arc's, `turn`. sweep: the sweep from the first end to a point.
+-- A candidate is taken where its sweep is less than the arc's, `turn`. sweep: the sweep from the
+-- first end to a point.
 unfoldable pub takenC : (Vec3 → Checked Float) → Float → Vec3 → Checked (List Vec3)
 takenC sweep turn p = do
   a ← sweep p
@@ -28,7 +29,8 @@ bothC center radius sweep turn w len = do
   q ← sideC center radius w len (neg one)
   takenC sweep turn p ⧺ takenC sweep turn q
 
--- Extreme along e, which is laid across the arc's axis twice. There are no candidates where nothing is left of it.
+-- Extreme along e, which is laid across the arc's axis twice. There are no candidates where nothing
+-- is left of it.
 unfoldable pub extremesC : Vec3 → Vec3 → Float → (Vec3 → Checked Float) → Float → Vec3 → Checked (List Vec3)
 extremesC center axis radius sweep turn e = do
   w ← acrossC axis e

@@ -1,5 +1,6 @@
-// The box of an arc, on numbers of any size: its ends, then those of its circle's extreme points that lie on it.
-// Nothing depends on the box: it is carried along, and the refusal met first beside it.
+// The box of an arc, on numbers of any size: its ends, then those of its circle's extreme points
+// that lie on it. Nothing depends on the box: it is carried along, and the refusal met first beside
+// it.
 ghost use mathlib.Core.Path.{_≡_};
 ghost use mathlib.Core.Bool.{Bool, cond};
 ghost use mathlib.Core.List.{[], _∷_};
@@ -50,7 +51,8 @@ fn widened_where(t: bool, b: Bounds, p: Vec3) -> Bounds
     if t { b.widened(p) } else { b }
 }
 
-// The box with the candidate p where that is taken. u: where the first end lies from the centre; turn: the arc's sweep.
+// The box with the candidate p where that is taken. u: where the first end lies from the centre;
+// turn: the arc's sweep.
 fn with_candidate(
     center: Vec3,
     axis: Vec3,
@@ -123,7 +125,8 @@ fn with_extremes(
     }
 }
 
-// The box widened by the arc of a circle from one point to another, after what was met on the way to the box.
+// The box widened by the arc of a circle from one point to another, after what was met on the way
+// to the box.
 pub fn extended(
     center: Vec3,
     axis: Vec3,

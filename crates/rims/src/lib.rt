@@ -17,7 +17,8 @@ use vectors::formula::noted;
 use vectors::formula::plus;
 use vectors::formula::times;
 
-// A circle and where on it the points start: its centre, the vector from there to the start, and that vector a quarter turn on.
+// A circle and where on it the points start: its centre, the vector from there to the start, and
+// that vector a quarter turn on.
 pub struct Rim {
     pub center: Vec3,
     pub start: Vec3,
@@ -93,7 +94,8 @@ fn write_kept(row: &mut [f64], before: u8, rim: Rim, turn: f64, n: u16, m: u16) 
     r
 }
 
-// Any number of points: they are worked out twice, since nothing is written before the last of them is settled.
+// Any number of points: they are worked out twice, since nothing is written before the last of them
+// is settled.
 fn write_twice(row: &mut [f64], before: u8, rim: Rim, turn: f64, n: u16, m: u16) -> u8
     requires { ⌜ 3 * m ≤ length (now row) ⌝ }
     ensures number { λ r. ⌜ r ≡ numberOf (pointsDue before (rimAtC rim turn n) m) ⌝ }
@@ -106,8 +108,8 @@ fn write_twice(row: &mut [f64], before: u8, rim: Rim, turn: f64, n: u16, m: u16)
     r
 }
 
-// Writes the points 1 to m of n on a turn and answers 0, or answers the refusal's number and leaves the row as it was. `before`: the
-// refusal that every point meets ahead of its own, if any.
+// Writes the points 1 to m of n on a turn and answers 0, or answers the refusal's number and leaves
+// the row as it was. `before`: the refusal that every point meets ahead of its own, if any.
 pub fn write(row: &mut [f64], before: u8, rim: Rim, turn: f64, n: u16, m: u16) -> u8
     ensures number { λ r. ⌜ r ≡ numberOf (allDue before (rimAtC rim turn n) m (length (now (row .entry)))) ⌝ }
     ensures row { λ _. ⌜ now (row .exit) ≡ rowAfter (allDue before (rimAtC rim turn n) m (length (now (row .entry)))) (now (row .entry)) ⌝ }

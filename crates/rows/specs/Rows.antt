@@ -63,7 +63,8 @@ abbrev pub rowAfter : Due (List Vec3) → List Float → List Float
 rowAfter (due ps) row = flat ps ++ drop (length (flat ps)) row
 rowAfter (refused n) row = row
 
--- what a call answers, its refusal's number or 0 and how many points are written, and what it leaves of the row
+-- what a call answers, its refusal's number or 0 and how many points are written, and what it
+-- leaves of the row
 pub record Drawn (d : Due (List Vec3)) (row left : List Float) (refusal points : ℕ) : Type 0 where
   pub number : refusal ≡ numberOf d
   pub part : 3 * points ≡ length (partOf d)

@@ -1,10 +1,12 @@
 // Points written to a lent row, three numbers each, once the last of them is settled.
 //
-// A function cannot be handed to another one, so whoever draws has two loops of its own: one that notes the points 1 to m, and one
-// that works them out into the start of a buffer with `put`. With f for its definition of a point, the first one's contract is
-// `upTo f m .refusal`, the second one's that and `flat (upTo f m .value) ++ drop (3 * m)` of the buffer; `upTo-refusal` and
-// `point-put` are a step of them. Up to KEPT points are worked out once, into a buffer that `copy_part` copies to the row; more of
-// them are worked out twice. Crate rims is the pattern, and its proofs, with another f, serve the next one.
+// A function cannot be handed to another one, so whoever draws has two loops of its own: one that
+// notes the points 1 to m, and one that works them out into the start of a buffer with `put`. With
+// f for its definition of a point, the first one's contract is `upTo f m .refusal`, the second
+// one's that and `flat (upTo f m .value) ++ drop (3 * m)` of the buffer; `upTo-refusal` and
+// `point-put` are a step of them. Up to KEPT points are worked out once, into a buffer that
+// `copy_part` copies to the row; more of them are worked out twice. Crate rims is the pattern, and
+// its proofs, with another f, serve the next one.
 ghost use mathlib.Core.Path.{_≡_};
 ghost use mathlib.Core.List.{_++_};
 ghost use Prim.Native.Nat.{_+_, _-_, _*_, _≤_};
@@ -18,7 +20,8 @@ pub struct Written {
     pub points: u16,
 }
 
-// The most points that are kept until the last of them is settled; an arc is hardly ever cut into more.
+// The most points that are kept until the last of them is settled; an arc is hardly ever cut into
+// more.
 pub const KEPT: u16 = 64;
 
 // The point p, behind the first i of a buffer.

@@ -1,4 +1,5 @@
-// Points of a circle in space by their angle, on numbers of any size: counterclockwise about `axis`, around `center`.
+// Points of a circle in space by their angle, on numbers of any size: counterclockwise about
+// `axis`, around `center`.
 ghost use mathlib.Core.Path.{_≡_};
 ghost use Rattle.spokes.specs.Spokes.{angleWithin, spokeC, atC};
 use checked::earlier;

@@ -1,4 +1,5 @@
-// How far a point is turned about an axis, on numbers of any size: counterclockwise about `axis`, around `center`.
+// How far a point is turned about an axis, on numbers of any size: counterclockwise about `axis`,
+// around `center`.
 ghost use mathlib.Core.Path.{_≡_};
 ghost use Rattle.sweeps.specs.Sweeps.{circleWithin, endsWithin, sweepFromC, sweepC};
 use angles::ahead;
