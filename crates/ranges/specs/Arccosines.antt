@@ -3,9 +3,9 @@ use mathlib.Core.Path.{_≡_, refl, sym, ap, _∙_, subst}
 use mathlib.Core.Bool.{Bool, true, false, cond}
 use Prim.Native.Nat.{ℕ, suc, _+_, _*_, _/_, _%_, _^_, _≤_, _<_}
 use native.Mathlib.Omega.{arith}
-use lib.Dec.{T, leb, ltb, eqb, lit≤}
+use lib.Dec.{T, leb, ltb, eqb, ltb→lt, lt→ltb, lit≤}
 use lib.IntN.{pos, negsuc}
-use lib.Ieee.{Float, nan, inf, fin, binary64, add, sub, mul, div, neg, le, lt, eq, fits, ofBits}
+use lib.Ieee.{Float, nan, inf, fin, binary64, up, down, add, sub, mul, div, neg, le, lt, eq, fits, ofBits}
 use lib.Ieee.Fits.{add-fits, sub-fits, mul-fits}
 use lib.Ieee.Bits.{ofBits-toBits}
 use borrow.Author.Tests.{leb-true, leb-false, ltb-true, ltb-false, eq-eqb}
@@ -17,7 +17,7 @@ use Rattle.words.specs.Words.{fabs, sign, size, _+ᶠ_, _-ᶠ_, _*ᶠ_, _/ᶠ_}
 use Rattle.words.specs.Laws.{fabs-bits}
 use Rattle.words.specs.Signs.{above-sign}
 use Rattle.rounding.specs.Root as Root
-use Rattle.arccosine.specs.Arccosine.{PIO2-HI, PIO2-LO, PS0, PS1, PS2, PS3, PS4, PS5, QS1, QS2, QS3, QS4, tiny, sqrt, ratio, atOne, acosFar, acosNear, acosAbove}
+use Rattle.arccosine.specs.Arccosine.{PIO2-HI, PIO2-LO, PS0, PS1, PS2, PS3, PS4, PS5, QS1, QS2, QS3, QS4, tiny, sqrt, ratio, atOne, acosFar, acosNear, acosAbove, acosBelow}
 use Rattle.roots.specs.Roots.{acos}
 use Rattle.bounds.specs.Parts.{nought, add-le}
 use Rattle.bounds.specs.Intervals.{In, Upto, plain, positive, upto-in, in-upto, upto-wider, upto-add, upto-sub, upto-mul, upto-div, in-add, in-sub, in-wider, in-scaled, in-finite, le-fabs, finite-number, upto-finite, plain-finite, plain-fabs}
@@ -26,7 +26,7 @@ use Rattle.bounds.specs.Own.{unit, mul-comm-of}
 use Rattle.bounds.specs.Powers.{pow, pow-wider, pow-mul, pow-add-of, pow-sub, pow-div, pow-finite}
 use Rattle.bounds.specs.HighWords.{below-word, above-word, pattern-le}
 use Rattle.bounds.specs.Neighbours.{size-top}
-use Rattle.bounds.specs.SquareRoots.{least-root, pow-sqrt, sqrt-positive}
+use Rattle.bounds.specs.SquareRoots.{least-root, pow-sqrt, sqrt-positive, sqrt-fits}
 
 -- ---- the ratio of the two polynomials, at a z of magnitude at most 1/4
 
@@ -138,3 +138,172 @@ upper-in s P F z =
 
     cleared : (b : ℕ) → b < 2047 * 2 ^ 52 → b / 2 ^ 32 * 2 ^ 32 < 2047 * 2 ^ 52
     cleared b h = omega arith
+
+abbrev last : Float
+last = literal 0x3fef_ffff_ffff_ffff
+
+-- what is above zero has no minus sign
+plain-above : (z : Float) → T (isFinite z) → T (lt nought z) → T (plain z) × T (positive z)
+unfolding lt isFinite
+plain-above nan Z h = absurd Z
+plain-above (inf s) Z h = absurd Z
+plain-above (fin true m e) Z h = absurd h
+plain-above (fin false m e) Z h = (tt, lt→ltb 0 (m * up e) (some (m * up e) (down e) (ltb→lt (0 * down e) (m * up e * 1) h)))
+  where
+    some : (a d : ℕ) → 0 * d < a * 1 → 0 < a
+    some a d h = omega arith
+
+least-root-above : T (lt nought least-root)
+unfolding lt
+least-root-above = tt
+
+least-sum : T (le least-root (add binary64 least-root nought))
+unfolding add le lt eq
+least-sum = tt
+
+module _ (x : Float) (X : In half last x) where
+  abbrev d : Float
+  d = one -ᶠ x
+
+  abbrev z : Float
+  z = d *ᶠ half
+
+  d-in : In (fin false 1 (negsuc 52)) (fin false 1 (negsuc 0)) d
+  unfolding sub neg le lt eq ofBits isFinite
+  d-in = in-sub one one half last tt tt tt tt one x (tt, tt) X
+
+  d-finite : T (isFinite d)
+  unfolding isFinite
+  d-finite = in-finite (fin false 1 (negsuc 52)) (fin false 1 (negsuc 0)) d tt tt d-in
+
+  z-in : In (fin false 1 (negsuc 53)) quarter z
+  unfolding mul ofBits isFinite
+  z-in =
+      subst (In (fin false 1 (negsuc 53)) quarter) (sym (mul-comm-of binary64 d half d-finite tt))
+      (in-scaled half (fin false 1 (negsuc 52)) (fin false 1 (negsuc 0)) d tt tt tt d-in)
+
+  z-finite : T (isFinite z)
+  unfolding isFinite
+  z-finite = in-finite (fin false 1 (negsuc 53)) quarter z tt tt z-in
+
+  z-plain : T (plain z) × T (positive z)
+  z-plain = plain-above z z-finite (lt-le-trans nought (fin false 1 (negsuc 53)) z (unfold lt in tt) (z-in .0))
+
+  z-upto : Upto quarter z
+  z-upto = subst (λ (v : Float). T (le v quarter)) (sym (plain-fabs z (z-plain .0))) (z-in .1)
+
+  z-fits : T (fits binary64 z)
+  z-fits = mul-fits binary64 d half
+
+  abbrev s : Float
+  s = sqrt z
+
+  s-upto : Upto (pow 1) s
+  s-upto = pow-sqrt 1 0 z (omega arith) (z-plain .0) z-fits (upto-wider quarter (pow 0) z (unfold le lt eq in tt) z-upto)
+
+  s-least : T (le least-root s)
+  s-least = sqrt-positive z (z-plain .0) z-fits (z-plain .1)
+
+  s-above : T (lt nought s)
+  s-above = lt-le-trans nought least-root s least-root-above s-least
+
+  s-finite : T (isFinite s)
+  s-finite = pow-finite 1 s s-upto
+
+  s-plain : T (plain s)
+  s-plain = plain-above s s-finite s-above .0
+
+  abbrev df : Float
+  df = upper s
+
+  df-in : In nought s df
+  df-in = upper-in s s-plain (sqrt-fits z z-fits) (above-sign s (sqrt-fits z z-fits) s-above)
+
+  df-upto : Upto (pow 1) df
+  df-upto =
+      in-upto (pow 1) df (
+        le-trans-of (neg (pow 1)) nought df (unfold neg le lt eq in tt) (df-in .0),
+        le-trans-of df s (pow 1) (df-in .1) (upto-in (pow 1) s s-upto .1),
+      )
+
+  df-finite : T (isFinite df)
+  df-finite = pow-finite 1 df df-upto
+
+  sum-finite : T (isFinite (s +ᶠ df))
+  sum-finite = pow-finite 2 (s +ᶠ df) (plus 1 1 1 s df (omega arith) (omega arith) (omega arith) s-upto df-upto)
+
+  sum-least : T (le least-root (fabs (s +ᶠ df)))
+  unfolding isFinite
+  sum-least =
+      le-trans-of least-root (s +ᶠ df) (fabs (s +ᶠ df))
+      (le-trans-of least-root (add binary64 least-root nought) (s +ᶠ df) least-sum (add-le binary64 least-root s nought df tt s-finite tt df-finite s-least (df-in .0)))
+      (le-fabs (s +ᶠ df) (finite-number (s +ᶠ df) sum-finite))
+
+  above-finite : T (isFinite (acosAbove x))
+  unfolding le lt eq fabs ofBits
+  above-finite =
+      let c = (z -ᶠ df *ᶠ df) /ᶠ (s +ᶠ df) in
+      let C : Upto (pow 540) c =
+      pow-div 3 536 (z -ᶠ df *ᶠ df) (s +ᶠ df) (omega arith)
+      (less 0 2 2 z (df *ᶠ df) (omega arith) (omega arith) (omega arith) (upto-wider quarter (pow 0) z tt z-upto) (pow-mul 1 1 df df (omega arith) df-upto df-upto)) sum-finite sum-least in
+      let w = ratio z *ᶠ s +ᶠ c in
+      let W : Upto (pow 541) w = plus 2 540 540 (ratio z *ᶠ s) c (omega arith) (omega arith) (omega arith) (pow-mul 1 1 (ratio z) s (omega arith) (ratio-upto z z-upto) s-upto) C in
+      pow-finite 543 (acosAbove x) (pow-mul 1 542 two (df +ᶠ w) (omega arith) tt (plus 1 541 541 df w (omega arith) (omega arith) (omega arith) df-upto W))
+
+-- ---- at 1
+
+one-size : (x : Float) → T (fits binary64 x) → T (isFinite x) → T (le x one) → T (le nought x) → 0x3ff00000 ≤ high-word x → size x ≡ 0x3ff0_0000_0000_0000
+one-size x F X h n w = by (ltb 0x3ff0_0000_0000_0000 (size x)) refl
+  where
+    same : (b : ℕ) → 0x3ff00000 ≤ b / 2 ^ 32 % 2 ^ 31 → b % 2 ^ 63 ≤ 0x3ff0_0000_0000_0000 → b % 2 ^ 63 ≡ 0x3ff0_0000_0000_0000
+    same b w l = omega arith
+
+    by : (c : Bool) → ltb 0x3ff0_0000_0000_0000 (size x) ≡ c → size x ≡ 0x3ff0_0000_0000_0000
+    by true e =
+        absurd (lt-not-le one (literal 0x3ff0_0000_0000_0001) (unfold lt ofBits in tt)
+        (le-trans-of (literal 0x3ff0_0000_0000_0001) (fabs x) one
+        (subst (λ (v : Float). T (le (literal 0x3ff0_0000_0000_0001) v)) (fabs-bits x F) (pattern-le 0x3ff0_0000_0000_0001 (size x) (ltb-true 0x3ff0_0000_0000_0000 (size x) e) (size-top x X F)))
+        (le-trans-of (fabs x) x one (above-size x X n) h)))
+    by false e = same (bits x) w (ltb-false 0x3ff0_0000_0000_0000 (size x) e)
+
+far-finite : (x : Float) → size x ≡ 0x3ff0_0000_0000_0000 → T (isFinite (acosFar x))
+unfolding acosFar
+far-finite x h = subst (λ (b : Bool). T (isFinite (cond b (atOne x) (zero /ᶠ (x -ᶠ x))))) (sym (eq-eqb (size x) 0x3ff0_0000_0000_0000 h)) (either (eqb (sign x) 0))
+  where
+    either : (b : Bool) → T (isFinite (cond b zero (two *ᶠ PIO2-HI +ᶠ tiny)))
+    either true = unfold ofBits isFinite in tt
+    either false = unfold add mul ofBits isFinite in tt
+
+-- ---- from 0 to 1
+
+pub acos-finite : (x : Float) → T (fits binary64 x) → In nought one x → T (isFinite (acos x))
+unfolding acos
+acos-finite x F h = by (leb 0x3ff00000 (high-word x)) refl (ltb (high-word x) 0x3fe00000) refl
+  where
+    X : T (isFinite x)
+    X = in-finite nought one x (unfold isFinite in tt) (unfold isFinite ofBits in tt) h
+
+    by : (p : Bool) → leb 0x3ff00000 (high-word x) ≡ p → (q : Bool) → ltb (high-word x) 0x3fe00000 ≡ q
+        → T (isFinite (cond p (acosFar x) (cond q (acosNear (high-word x) x) (cond (eqb (sign x) 0) (acosAbove x) (acosBelow x)))))
+    by true a q b = far-finite x (one-size x F X (h .1) (h .0) (leb-true 0x3ff00000 (high-word x) a))
+    by false a true b = near-finite (high-word x) x (unfold ofBits in below-word x 0x3fe00000 F (ltb-true (high-word x) 0x3fe00000 b) (omega arith))
+    by false a false b =
+        subst (λ (c : Bool). T (isFinite (cond c (acosAbove x) (acosBelow x)))) (sym (eq-eqb (sign x) 0 (above-sign x F positive-x))) (above-finite x within-half)
+      where
+        words : high-word x < 0x3ff00000
+        words = leb-false 0x3ff00000 (high-word x) a
+
+        under : (b : ℕ) → b / 2 ^ 32 % 2 ^ 31 < 0x3ff00000 → b % 2 ^ 63 ≤ 0x3fef_ffff_ffff_ffff
+        under b w = omega arith
+
+        low : T (le half (fabs x))
+        low = unfold ofBits in above-word x 0x3fe00000 F (ltb-false (high-word x) 0x3fe00000 b) (omega (arith, words))
+
+        within-half : In half last x
+        within-half = (
+          le-trans-of half (fabs x) x low (above-size x X (h .0)),
+          le-trans-of x (fabs x) last (le-fabs x (finite-number x X)) (subst (λ (v : Float). T (le v last)) (fabs-bits x F) (pattern-le (size x) 0x3fef_ffff_ffff_ffff (under (bits x) words) (lit≤ tt))),
+        )
+
+        positive-x : T (lt nought x)
+        positive-x = lt-le-trans nought half x (unfold lt ofBits in tt) (within-half .0)

@@ -19,23 +19,26 @@ use Rattle.vectors.specs.Laws.{times-right}
 use Rattle.directions.specs.Directions.{lengthC, acrossC}
 use Rattle.circle.specs.Circle.{sines, sinesOrZeros, sincosC}
 use Rattle.arcs.specs.declared.Arc.{Arc}
-use Rattle.arcs.specs.Arcs.{spokeC, turnedC, atC}
-use Rattle.arcs.specs.Entries.{arcWithin, atDue}
-use Rattle.arcs.specs.Laws.{spoke-refusal, turned-refusal}
+use Rattle.arcs.specs.Entries.{atDue}
+use Rattle.sweeps.specs.Sweeps.{circleWithin}
+use Rattle.rims.specs.Rims.{rimC}
+use Rattle.rims.specs.Laws.{rim-refusal}
+use Rattle.spokes.specs.Spokes.{angleWithin, spokeC, turnedC, atC}
+use Rattle.spokes.specs.Laws.{spoke-refusal, rimOf, turned-refusal, turned-value}
 use Rattle.bounds.specs.Intervals.{le-fabs, finite-number}
 use Rattle.bounds.specs.Powers.{pow-div, within-pow}
 use Rattle.bounds.specs.SquareRoots.{least-root, sqrt-zero}
-use Rattle.turns.specs.Sizes.{Upto3, nine-none, finite3, within-upto3, wider3, minus3, plus3, times3, cross3}
+use Rattle.turns.specs.Sizes.{Upto3, none, nine-none, finite3, within-upto3, wider3, minus3, plus3, times3, cross3}
 use Rattle.turns.specs.Squares.{dot-self}
-use Rattle.turns.specs.Points.{across3, length-finite, length-least, none}
+use Rattle.turns.specs.Points.{across3, length-finite, length-least}
 use Rattle.ranges.specs.Sines.{Bounded, sines-bounded}
 
 -- what is left of the way from the centre to `from` across the axis, and its length
-abbrev pub off : Arc → Vec3 → Vec3
-off arc from = acrossC (arc .axis) (minusC from (arc .center) .value) .value
+abbrev pub off : Vec3 → Vec3 → Vec3 → Vec3
+off center axis from = acrossC axis (minusC from center .value) .value
 
-abbrev pub offLength : Arc → Vec3 → Float
-offLength arc from = lengthC (off arc from) .value
+abbrev pub offLength : Vec3 → Vec3 → Vec3 → Float
+offLength center axis from = lengthC (off center axis from) .value
 
 nines-none : (k : ℕ) (v : Vec3) → Upto3 k v → nines v ≡ 0
 unfolding nines
@@ -72,75 +75,97 @@ over-zero (fin s m d) e h = go (eqb m 0) h
     go true h = h
     go false h = h
 
-module _ (arc : Arc) (from : Vec3) (t : Float) (C : T (within3 (arc .center))) (A : T (within3 (arc .axis))) (R : T (within (arc .radius))) (P : T (within3 from)) (W : T (within t)) where
-  center : Upto3 20 (arc .center)
-  center = within-upto3 (arc .center) C
+-- the angle's refusal, then the point's
+notes : (center axis d : Vec3) (t : Float) → turnedC center axis d t .refusal ≡ first (sincosC t .refusal) (nines (turnedC center axis d t .value))
+notes center axis d t =
+    turned-refusal center axis d t
+    ∙ rim-refusal (rimOf center axis d) t
+    ∙ ap (λ (v : Vec3). first (sincosC t .refusal) (nines v)) (sym (turned-value center axis d t))
 
-  axis : Upto3 20 (arc .axis)
-  axis = within-upto3 (arc .axis) A
+module _ (center axis : Vec3) (radius : Float) (from : Vec3) (C : T (within3 center)) (A : T (within3 axis)) (R : T (within radius)) (P : T (within3 from)) where
+  centred : Upto3 20 center
+  centred = within-upto3 center C
 
-  off-size : Upto3 64 (off arc from)
-  off-size = across3 21 (arc .axis) (minusC from (arc .center) .value) (omega arith) axis (minus3 20 from (arc .center) (omega arith) (within-upto3 from P) center)
+  axial : Upto3 20 axis
+  axial = within-upto3 axis A
 
-  finite-length : T (isFinite (offLength arc from))
-  finite-length = length-finite 64 (off arc from) (omega arith) off-size
+  off-size : Upto3 64 (off center axis from)
+  off-size = across3 21 axis (minusC from center .value) (omega arith) axial (minus3 20 from center (omega arith) (within-upto3 from P) centred)
 
-  spoke-size : T (lt zero (offLength arc from)) → Upto3 621 (spokeC arc from .value)
+  finite-length : T (isFinite (offLength center axis from))
+  finite-length = length-finite 64 (off center axis from) (omega arith) off-size
+
+  spoke-size : T (lt zero (offLength center axis from)) → Upto3 621 (spokeC center axis radius from .value)
   unfolding spokeC
   spoke-size l =
-      let len = offLength arc from in
-      times3 64 557 (off arc from) (div binary64 (arc .radius) len) (omega arith) off-size
-      (pow-div 20 536 (arc .radius) len (omega arith) (within-pow (arc .radius) R) finite-length (le-trans-of least-root len (fabs len) (length-least 64 (off arc from) (omega arith) off-size l) (le-fabs len (finite-number len finite-length))))
+      let len = offLength center axis from in
+      times3 64 557 (off center axis from) (div binary64 radius len) (omega arith) off-size
+      (pow-div 20 536 radius len (omega arith) (within-pow radius R) finite-length (le-trans-of least-root len (fabs len) (length-least 64 (off center axis from) (omega arith) off-size l) (le-fabs len (finite-number len finite-length))))
 
-  turned-size : (d : Vec3) → Upto3 621 d → Upto3 1009 (turnedC arc d t .value)
+  -- the spoke, where the start lies off the axis
+  pub spoke-found : T (lt zero (offLength center axis from)) → spokeC center axis radius from .refusal ≡ 0
+  spoke-found l = spoke-refusal center axis radius from ∙ none _ _ (nine-none (offLength center axis from) finite-length) (nines-none 621 (spokeC center axis radius from .value) (spoke-size l))
+
+  spoke-lost : lt zero (offLength center axis from) ≡ false → T (isFinite3 (spokeC center axis radius from .value)) → ⊥
+  unfolding spokeC lengthC ofBits
+  spoke-lost h f =
+      let w = off center axis from in
+      let z = sqrt-zero (dotC w w .value) (dot-self 64 w (omega arith) off-size .0) (dot-self 64 w (omega arith) off-size .1) h in
+      over-zero radius (z .0) (subst (λ (v : Float). T (isFinite (div binary64 radius v))) (z .1) (times-right w (div binary64 radius (offLength center axis from)) f))
+
+  lost : lt zero (offLength center axis from) ≡ false → nines (spokeC center axis radius from .value) ≡ NOT-FINITE
+  unfolding nines
+  lost h = ap (λ (b : Bool). cond b 0 NOT-FINITE) (is-false (isFinite3 (spokeC center axis radius from .value)) (not-T (isFinite3 (spokeC center axis radius from .value)) (spoke-lost h)))
+
+  -- and where it lies on the axis
+  pub spoke-missed : lt zero (offLength center axis from) ≡ false → spokeC center axis radius from .refusal ≡ NOT-FINITE
+  unfolding first
+  spoke-missed h = spoke-refusal center axis radius from ∙ λ i. first (nine-none (offLength center axis from) finite-length i) (lost h i)
+
+module _ (center axis : Vec3) (radius : Float) (from : Vec3) (t : Float) (C : T (within3 center)) (A : T (within3 axis)) (R : T (within radius)) (P : T (within3 from)) (W : T (within t)) where
+  abbrev spoke : Vec3
+  spoke = spokeC center axis radius from .value
+
+  turned-size : (d : Vec3) → Upto3 621 d → Upto3 1009 (turnedC center axis d t .value)
   unfolding turnedC
   turned-size d D =
       let s = sinesOrZeros t in
       let S = due-sines t W in
-      plus3 1008 (plusC (arc .center) (timesC d (s .cos) .value) .value) (timesC (crossC (arc .axis) d .value) (s .sin) .value) (omega arith)
-      (wider3 988 1008 (plusC (arc .center) (timesC d (s .cos) .value) .value) (omega arith) (plus3 987 (arc .center) (timesC d (s .cos) .value) (omega arith) (wider3 20 987 (arc .center) (omega arith) center) (times3 621 366 d (s .cos) (omega arith) D (S .1))))
-      (times3 642 366 (crossC (arc .axis) d .value) (s .sin) (omega arith) (cross3 20 621 (arc .axis) d (omega arith) axis D) (S .0))
+      plus3 1008 (plusC center (timesC d (s .cos) .value) .value) (timesC (crossC axis d .value) (s .sin) .value) (omega arith)
+      (wider3 988 1008 (plusC center (timesC d (s .cos) .value) .value) (omega arith) (plus3 987 center (timesC d (s .cos) .value) (omega arith) (wider3 20 987 center (omega arith) (within-upto3 center C)) (times3 621 366 d (s .cos) (omega arith) D (S .1))))
+      (times3 642 366 (crossC axis d .value) (s .sin) (omega arith) (cross3 20 621 axis d (omega arith) (within-upto3 axis A) D) (S .0))
 
   angle-none : sincosC t .refusal ≡ 0
   angle-none = none (nine t) (eight t) (nine-none t (within-finite t W)) (eight-none t W)
 
-  off-axis : T (lt zero (offLength arc from)) → atC arc from t .refusal ≡ 0
+  -- the point at the spoke's end, turned
+  pub turned-accepted : T (lt zero (offLength center axis from)) → turnedC center axis spoke t .refusal ≡ 0
+  turned-accepted l = notes center axis spoke t ∙ none _ _ angle-none (nines-none 1009 (turnedC center axis spoke t .value) (turned-size spoke (spoke-size center axis radius from C A R P l)))
+
+  off-axis : T (lt zero (offLength center axis from)) → atC center axis radius from t .refusal ≡ 0
   unfolding atC
-  off-axis l =
-      none _ _
-      (spoke-refusal arc from ∙ none _ _ (nine-none (offLength arc from) finite-length) (nines-none 621 (spokeC arc from .value) (spoke-size l)))
-      (turned-refusal arc (spokeC arc from .value) t ∙ none _ _ angle-none (nines-none 1009 (turnedC arc (spokeC arc from .value) t .value) (turned-size (spokeC arc from .value) (spoke-size l))))
+  off-axis l = none _ _ (spoke-found center axis radius from C A R P l) (turned-accepted l)
 
-  spoke-lost : lt zero (offLength arc from) ≡ false → T (isFinite3 (spokeC arc from .value)) → ⊥
-  unfolding spokeC lengthC ofBits
-  spoke-lost h f =
-      let w = off arc from in
-      let z = sqrt-zero (dotC w w .value) (dot-self 64 w (omega arith) off-size .0) (dot-self 64 w (omega arith) off-size .1) h in
-      over-zero (arc .radius) (z .0) (subst (λ (v : Float). T (isFinite (div binary64 (arc .radius) v))) (z .1) (times-right w (div binary64 (arc .radius) (offLength arc from)) f))
-
-  lost : lt zero (offLength arc from) ≡ false → nines (spokeC arc from .value) ≡ NOT-FINITE
-  unfolding nines
-  lost h = ap (λ (b : Bool). cond b 0 NOT-FINITE) (is-false (isFinite3 (spokeC arc from .value)) (not-T (isFinite3 (spokeC arc from .value)) (spoke-lost h)))
-
-  on-axis : lt zero (offLength arc from) ≡ false → atC arc from t .refusal ≡ NOT-FINITE
+  on-axis : lt zero (offLength center axis from) ≡ false → atC center axis radius from t .refusal ≡ NOT-FINITE
   unfolding atC first
-  on-axis h = ap (λ (r : ℕ). first r (turnedC arc (spokeC arc from .value) t .refusal)) (spoke-refusal arc from ∙ λ i. first (nine-none (offLength arc from) finite-length i) (lost h i))
+  on-axis h = ap (λ (r : ℕ). first r (turnedC center axis spoke t .refusal)) (spoke-missed center axis radius from C A R P h)
 
-  answered-at : answered (atC arc from t) ≡ cond (lt zero (offLength arc from)) (due (atC arc from t .value)) (refused NOT-FINITE)
+  answered-at : answered (atC center axis radius from t) ≡ cond (lt zero (offLength center axis from)) (due (atC center axis radius from t .value)) (refused NOT-FINITE)
   unfolding settled
-  answered-at = go (lt zero (offLength arc from)) refl
+  answered-at = go (lt zero (offLength center axis from)) refl
     where
-      go : (b : Bool) → lt zero (offLength arc from) ≡ b → settled (atC arc from t .refusal) (atC arc from t .value) ≡ cond b (due (atC arc from t .value)) (refused NOT-FINITE)
-      go true e = ap (λ (r : ℕ). settled r (atC arc from t .value)) (off-axis (subst T (sym e) tt))
-      go false e = ap (λ (r : ℕ). settled r (atC arc from t .value)) (on-axis e)
+      go : (b : Bool) → lt zero (offLength center axis from) ≡ b → settled (atC center axis radius from t .refusal) (atC center axis radius from t .value) ≡ cond b (due (atC center axis radius from t .value)) (refused NOT-FINITE)
+      go true e = ap (λ (r : ℕ). settled r (atC center axis radius from t .value)) (off-axis (subst T (sym e) tt))
+      go false e = ap (λ (r : ℕ). settled r (atC center axis radius from t .value)) (on-axis e)
 
 -- `Arc::at`, for all arguments
-pub at-answer : (arc : Arc) (from : Vec3) (t : Float) → atDue arc from t ≡ unless OUT-OF-RANGE (arcWithin arc && (within3 from && within t)) (cond (lt zero (offLength arc from)) (due (atC arc from t .value)) (refused NOT-FINITE))
-unfolding atDue arcWithin
-at-answer arc from t = go (within3 (arc .center)) (within3 (arc .axis)) (within (arc .radius)) (within3 from) (within t) (answered-at arc from t)
+pub at-answer : (arc : Arc) (from : Vec3) (t : Float)
+    → atDue arc from t ≡ unless OUT-OF-RANGE (angleWithin (arc .center) (arc .axis) (arc .radius) from t) (cond (lt zero (offLength (arc .center) (arc .axis) from)) (due (atC (arc .center) (arc .axis) (arc .radius) from t .value)) (refused NOT-FINITE))
+unfolding atDue angleWithin circleWithin
+at-answer arc from t = go (within3 (arc .center)) (within3 (arc .axis)) (within (arc .radius)) (within3 from) (within t) (answered-at (arc .center) (arc .axis) (arc .radius) from t)
   where
-    go : (c a r p w : Bool) → (T c → T a → T r → T p → T w → answered (atC arc from t) ≡ cond (lt zero (offLength arc from)) (due (atC arc from t .value)) (refused NOT-FINITE))
-        → unless OUT-OF-RANGE ((c && (a && r)) && (p && w)) (answered (atC arc from t)) ≡ unless OUT-OF-RANGE ((c && (a && r)) && (p && w)) (cond (lt zero (offLength arc from)) (due (atC arc from t .value)) (refused NOT-FINITE))
+    go : (c a r p w : Bool) → (T c → T a → T r → T p → T w → answered (atC (arc .center) (arc .axis) (arc .radius) from t) ≡ cond (lt zero (offLength (arc .center) (arc .axis) from)) (due (atC (arc .center) (arc .axis) (arc .radius) from t .value)) (refused NOT-FINITE))
+        → unless OUT-OF-RANGE ((c && (a && r)) && (p && w)) (answered (atC (arc .center) (arc .axis) (arc .radius) from t)) ≡ unless OUT-OF-RANGE ((c && (a && r)) && (p && w)) (cond (lt zero (offLength (arc .center) (arc .axis) from)) (due (atC (arc .center) (arc .axis) (arc .radius) from t .value)) (refused NOT-FINITE))
     go true true true true true h = h tt tt tt tt tt
     go true true true true false h = refl
     go true true true false w h = refl

@@ -3,6 +3,7 @@
 -- beside 2π that is lost in rounding. Any other end is told from the start. Assumes nothing.
 use mathlib.Core.Path.{_≡_, refl, sym, _∙_, subst}
 use mathlib.Core.Bool.{Bool, true, false, cond, _&&_}
+use native.Mathlib.Omega.{arith}
 use lib.Dec.{T, not-T, lit≤}
 use lib.Ieee.{Float, binary64, add, sub, neg, le, lt, eq, fits, ofBits}
 use lib.Ieee.Bits.{is-true, is-false}
@@ -14,6 +15,18 @@ use Rattle.bounds.specs.Parts.{nought}
 use Rattle.bounds.specs.Intervals.{In, in-add, in-sub, in-finite}
 use Rattle.bounds.specs.Neighbours.{next-down, next-up}
 use Rattle.ranges.specs.Quadrants.{Angle}
+use Rattle.vectors.specs.declared.Vec2.{Vec2}
+use Rattle.vectors.specs.declared.Vec3.{Vec3}
+use Rattle.vectors.specs.Vectors.{within2, minusC}
+use Rattle.arctangent.specs.Arctangent.{atan2}
+use Rattle.profiles.specs.declared.ProfileArc.{ProfileArc}
+use Rattle.profiles.specs.Profiles.{apartC, betweenC, turnC}
+use Rattle.arcs.specs.declared.Arc.{Arc}
+use Rattle.sweeps.specs.Sweeps.{endsWithin, sweepFromC, sweepC}
+use Rattle.sweeps.specs.Laws.{rise, run}
+use Rattle.turns.specs.Sizes.{within-upto3}
+use Rattle.turns.specs.Turns.{handed-in, away, turn-angle, turn-fits, sweepFrom-angle, sweepFrom-fits}
+use Rattle.turns.specs.Same.{by-sense}
 
 -- 2^-51
 abbrev pub lost : Float
@@ -98,3 +111,33 @@ back-full t a F = by (le zero t) refl (le t lost) refl
     by false e c k = is-false (eq t (neg tau)) (not-T (eq t (neg tau)) (half-back t a))
     by true e true k = is-true (eq (sub binary64 t tau) (neg tau)) (lowered t (subst T (sym e) tt) (subst T (sym k) tt))
     by true e false k = is-false (eq (sub binary64 t tau) (neg tau)) (not-T (eq (sub binary64 t tau) (neg tau)) (beyond t a (next-up 0x3cc0_0000_0000_0000 t (lit≤ tt) F (angle-finite t a) (above t e) k)))
+
+-- ---- the two entries
+
+-- the arctangent that a sweep comes from
+abbrev pub sweepAngle : Arc → Vec3 → Vec3 → Float
+sweepAngle arc from to = let u = minusC from (arc .center) .value in atan2 (rise (arc .center) (arc .axis) u to) (run (arc .center) u to)
+
+-- a sweep is a full circle exactly where its end lies behind its start by at most 2^-51, or on its direction
+pub sweep-full : (arc : Arc) (from to : Vec3) → T (endsWithin (arc .center) (arc .axis) (arc .radius) from to) → eq (sweepC (arc .center) (arc .axis) from to .value) tau ≡ isLostBehind (sweepAngle arc from to)
+unfolding sweepC sweepFromC
+sweep-full arc from to h =
+    let g = handed-in (arc .center) (arc .axis) (arc .radius) from to h in
+    let u = minusC from (arc .center) .value in
+    let U = away (arc .center) (arc .axis) from to (g .center) (g .axis) (g .start) (g .end) in
+    let A = within-upto3 (arc .axis) (g .axis) in
+    ahead-full (sweepAngle arc from to) (sweepFrom-angle (arc .center) (arc .axis) 21 21 u to (omega arith) A (U from (g .start)) (U to (g .end))) (sweepFrom-fits (arc .center) (arc .axis) 21 21 u to (omega arith) A (U from (g .start)) (U to (g .end)))
+
+-- the arctangent that a turn comes from
+abbrev pub turnAngle : ProfileArc → Vec2 → Vec2 → Float
+turnAngle arc a b = betweenC (apartC (arc .center) a .value) (apartC (arc .center) b .value) .value
+
+-- a turn is a full circle, counterclockwise or clockwise, exactly where its end is that near behind its start in the turn's sense
+pub turn-full : (arc : ProfileArc) (a b : Vec2) → T (within2 (arc .center)) → T (within2 a) → T (within2 b)
+    → eq (turnC arc a b .value) (by-sense (arc .ccw)) ≡ cond (arc .ccw) (isLostBehind (turnAngle arc a b)) (isLostAhead (turnAngle arc a b))
+unfolding turnC
+turn-full arc a b C A B = by (arc .ccw)
+  where
+    by : (ccw : Bool) → eq (cond ccw (aheadC (turnAngle arc a b)) (backC (turnAngle arc a b)) .value) (by-sense ccw) ≡ cond ccw (isLostBehind (turnAngle arc a b)) (isLostAhead (turnAngle arc a b))
+    by true = ahead-full (turnAngle arc a b) (turn-angle arc a b C A B) (turn-fits arc a b C A B)
+    by false = back-full (turnAngle arc a b) (turn-angle arc a b C A B) (turn-fits arc a b C A B)

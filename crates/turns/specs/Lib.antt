@@ -5,3 +5,5 @@ pub mod Same
 pub mod FullCircles
 pub mod Points
 pub mod At
+pub mod PerTurn
+pub mod Inner

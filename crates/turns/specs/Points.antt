@@ -15,17 +15,17 @@ use Rattle.checked.specs.Numbers.{zero, one}
 use Rattle.vectors.specs.Vectors.{within3, plusC, minusC, timesC, dotC}
 use Rattle.directions.specs.Directions.{lengthC, acrossC}
 use Rattle.arcs.specs.declared.Arc.{Arc}
-use Rattle.arcs.specs.Arcs.{sweepFromC}
+use Rattle.sweeps.specs.Sweeps.{endsWithin, sweepFromC}
 use Rattle.boxes.specs.declared.Bounds.{Bounds}
 use Rattle.boxes.specs.Boxes.{free, passed, tried, widenedBy, boxCall}
-use Rattle.arcs.specs.Entries.{endsWithin, extendDue}
-use Rattle.arcs.specs.Extremes.{sideC, bothC, extremesC, along-x, along-y, along-z, pointsC}
-use Rattle.arcs.specs.Laws.{both-refusal, extremes-refusal, points-refusal}
+use Rattle.arcs.specs.Entries.{points, extendDue}
+use Rattle.extremes.specs.Extremes.{sideC, bothC, extremesC, along-x, along-y, along-z, pointsC}
+use Rattle.extremes.specs.Laws.{both-refusal, extremes-refusal, points-refusal}
 use Rattle.bounds.specs.Intervals.{Upto, le-fabs, finite-number}
 use Rattle.bounds.specs.Powers.{pow, pow-mul, pow-div, within-pow}
 use Rattle.bounds.specs.SquareRoots.{least-root, sqrt-finite, sqrt-least}
 use Rattle.order.specs.Order.{le-trans-of}
-use Rattle.turns.specs.Sizes.{Upto3, nine-none, within-upto3, wider3, minus3, plus3, times3, dot3}
+use Rattle.turns.specs.Sizes.{Upto3, none, nine-none, within-upto3, wider3, minus3, plus3, times3, dot3}
 use Rattle.turns.specs.Squares.{dot-self}
 use Rattle.turns.specs.Turns.{Handed, handed-in, sweepFrom-accepted}
 
@@ -55,60 +55,56 @@ unit-sides : Upto (pow 0) one × Upto (pow 0) (neg one)
 unfolding neg fabs le lt eq ofBits
 unit-sides = (tt, tt)
 
-pub side3 : (arc : Arc) (w : Vec3) (len s : Float) → Upto3 20 (arc .center) → Upto (pow 20) (arc .radius) → Upto3 86 w → T (isFinite len) → T (le least-root len) → Upto (pow 0) s → Upto3 645 (minusC (sideC arc w len s .value) (arc .center) .value)
+pub side3 : (center : Vec3) (radius : Float) (w : Vec3) (len s : Float) → Upto3 20 center → Upto (pow 20) radius → Upto3 86 w → T (isFinite len) → T (le least-root len) → Upto (pow 0) s → Upto3 645 (minusC (sideC center radius w len s .value) center .value)
 unfolding sideC
-side3 arc w len s C R W F L S =
-    let q = div binary64 (mul binary64 s (arc .radius)) len in
-    let Q : Upto (pow 557) q = pow-div 20 536 (mul binary64 s (arc .radius)) len (omega arith) (pow-mul 0 20 s (arc .radius) (omega arith) S R) F (le-trans-of least-root len (fabs len) L (le-fabs len (finite-number len F))) in
-    minus3 644 (plusC (arc .center) (timesC w q .value) .value) (arc .center) (omega arith)
-    (plus3 643 (arc .center) (timesC w q .value) (omega arith) (wider3 20 643 (arc .center) (omega arith) C) (times3 86 557 w q (omega arith) W Q))
-    (wider3 20 644 (arc .center) (omega arith) C)
+side3 center radius w len s C R W F L S =
+    let q = div binary64 (mul binary64 s radius) len in
+    let Q : Upto (pow 557) q = pow-div 20 536 (mul binary64 s radius) len (omega arith) (pow-mul 0 20 s radius (omega arith) S R) F (le-trans-of least-root len (fabs len) L (le-fabs len (finite-number len F))) in
+    minus3 644 (plusC center (timesC w q .value) .value) center (omega arith)
+    (plus3 643 center (timesC w q .value) (omega arith) (wider3 20 643 center (omega arith) C) (times3 86 557 w q (omega arith) W Q))
+    (wider3 20 644 center (omega arith) C)
 
 -- ---- extreme points, and all
 
-pub none : (a b : ℕ) → a ≡ 0 → b ≡ 0 → first a b ≡ 0
-unfolding first
-none a b p q = λ i. first (p i) (q i)
+module _ (center axis : Vec3) (radius : Float) (from to : Vec3) (H : Handed center axis radius from to) where
+  centred : Upto3 20 center
+  centred = within-upto3 center (H .center)
 
-module _ (arc : Arc) (from to : Vec3) (H : Handed arc from to) where
-  center : Upto3 20 (arc .center)
-  center = within-upto3 (arc .center) (H .center)
-
-  axis : Upto3 20 (arc .axis)
-  axis = within-upto3 (arc .axis) (H .axis)
+  axial : Upto3 20 axis
+  axial = within-upto3 axis (H .axis)
 
   abbrev u : Vec3
-  u = minusC from (arc .center) .value
+  u = minusC from center .value
 
-  away : (p : Vec3) → T (within3 p) → Upto3 21 (minusC p (arc .center) .value)
-  away p P = minus3 20 p (arc .center) (omega arith) (within-upto3 p P) center
+  away : (p : Vec3) → T (within3 p) → Upto3 21 (minusC p center .value)
+  away p P = minus3 20 p center (omega arith) (within-upto3 p P) centred
 
   module _ (turn : Float) (e : Vec3) (E : Upto3 0 e) where
     abbrev w : Vec3
-    w = acrossC (arc .axis) (acrossC (arc .axis) e .value) .value
+    w = acrossC axis (acrossC axis e .value) .value
 
     abbrev len : Float
     len = lengthC w .value
 
     w-size : Upto3 86 w
-    w-size = across3 43 (arc .axis) (acrossC (arc .axis) e .value) (omega arith) axis (across3 0 (arc .axis) e (omega arith) axis E)
+    w-size = across3 43 axis (acrossC axis e .value) (omega arith) axial (across3 0 axis e (omega arith) axial E)
 
-    candidate : (s : Float) → T (lt zero len) → Upto (pow 0) s → sweepFromC arc u (sideC arc w len s .value) .refusal ≡ 0
+    candidate : (s : Float) → T (lt zero len) → Upto (pow 0) s → sweepFromC center axis u (sideC center radius w len s .value) .refusal ≡ 0
     candidate s l S =
-        sweepFrom-accepted arc 21 645 u (sideC arc w len s .value) (omega arith) axis (away from (H .start))
-        (side3 arc w len s center (within-pow (arc .radius) (H .radius)) w-size (length-finite 86 w (omega arith) w-size) (length-least 86 w (omega arith) w-size l) S)
+        sweepFrom-accepted center axis 21 645 u (sideC center radius w len s .value) (omega arith) axial (away from (H .start))
+        (side3 center radius w len s centred (within-pow radius (H .radius)) w-size (length-finite 86 w (omega arith) w-size) (length-least 86 w (omega arith) w-size l) S)
 
-    extremes-accepted : extremesC arc (sweepFromC arc u) turn e .refusal ≡ 0
+    extremes-accepted : extremesC center axis radius (sweepFromC center axis u) turn e .refusal ≡ 0
     extremes-accepted =
-        extremes-refusal arc (sweepFromC arc u) turn e
-        ∙ none (nine len) (cond (lt zero len) (bothC arc (sweepFromC arc u) turn w len) (given []) .refusal) (nine-none len (length-finite 86 w (omega arith) w-size)) (by (lt zero len) (λ l. both-refusal arc u turn w len ∙ none _ _ (candidate one l (unit-sides .0)) (candidate (neg one) l (unit-sides .1))))
+        extremes-refusal center axis radius (sweepFromC center axis u) turn e
+        ∙ none (nine len) (cond (lt zero len) (bothC center radius (sweepFromC center axis u) turn w len) (given []) .refusal) (nine-none len (length-finite 86 w (omega arith) w-size)) (by (lt zero len) (λ l. both-refusal center axis radius u turn w len ∙ none _ _ (candidate one l (unit-sides .0)) (candidate (neg one) l (unit-sides .1))))
       where
-        by : (b : Bool) → (T b → bothC arc (sweepFromC arc u) turn w len .refusal ≡ 0) → cond b (bothC arc (sweepFromC arc u) turn w len) (given []) .refusal ≡ 0
+        by : (b : Bool) → (T b → bothC center radius (sweepFromC center axis u) turn w len .refusal ≡ 0) → cond b (bothC center radius (sweepFromC center axis u) turn w len) (given []) .refusal ≡ 0
         by true h = h tt
         by false h = refl
 
-  along : (e : Vec3) → Upto3 0 e → extremesC arc (sweepFromC arc u) (sweepFromC arc u to .value) e .refusal ≡ 0
-  along e E = extremes-accepted (sweepFromC arc u to .value) e E
+  along : (e : Vec3) → Upto3 0 e → extremesC center axis radius (sweepFromC center axis u) (sweepFromC center axis u to .value) e .refusal ≡ 0
+  along e E = extremes-accepted (sweepFromC center axis u to .value) e E
 
   unit-x : Upto3 0 along-x
   unfolding fabs le lt eq ofBits
@@ -122,21 +118,22 @@ module _ (arc : Arc) (from to : Vec3) (H : Handed arc from to) where
   unfolding fabs le lt eq ofBits
   unit-z = record { x = tt; y = tt; z = tt }
 
-  accepted : pointsC arc from to .refusal ≡ 0
+  accepted : pointsC center axis radius from to .refusal ≡ 0
   accepted =
-      points-refusal arc from to
-      ∙ none _ _ (sweepFrom-accepted arc 21 21 u to (omega arith) axis (away from (H .start)) (away to (H .end)))
+      points-refusal center axis radius from to
+      ∙ none _ _ (sweepFrom-accepted center axis 21 21 u to (omega arith) axial (away from (H .start)) (away to (H .end)))
       (none _ _ (along along-x unit-x) (none _ _ (along along-y unit-y) (along along-z unit-z)))
 
-pub points-accepted : (arc : Arc) (from to : Vec3) → T (endsWithin arc from to) → pointsC arc from to .refusal ≡ 0
-points-accepted arc from to h = accepted arc from to (handed-in arc from to h)
+pub points-accepted : (center axis : Vec3) (radius : Float) (from to : Vec3) → T (endsWithin center axis radius from to) → pointsC center axis radius from to .refusal ≡ 0
+points-accepted center axis radius from to h = accepted center axis radius from to (handed-in center axis radius from to h)
 
 -- `Arc::extend_bounds`, for all arguments: numbers out of range are refused, and a box with a NaN; any other call widens the box
-pub extend-answer : (arc : Arc) (from to : Vec3) (b : Bounds) → extendDue arc from to b ≡ unless OUT-OF-RANGE (endsWithin arc from to) (unless BAD-BOX-OR-SUMS (free b) (due (widenedBy b (pointsC arc from to .value))))
+pub extend-answer : (arc : Arc) (from to : Vec3) (b : Bounds)
+    → extendDue arc from to b ≡ unless OUT-OF-RANGE (endsWithin (arc .center) (arc .axis) (arc .radius) from to) (unless BAD-BOX-OR-SUMS (free b) (due (widenedBy b (points arc from to .value))))
 unfolding extendDue boxCall
-extend-answer arc from to b = go (endsWithin arc from to) (free b) (points-accepted arc from to)
+extend-answer arc from to b = go (endsWithin (arc .center) (arc .axis) (arc .radius) from to) (free b) (points-accepted (arc .center) (arc .axis) (arc .radius) from to)
   where
-    go : (e f : Bool) → (T e → pointsC arc from to .refusal ≡ 0) → tried (unless OUT-OF-RANGE e passed) (unless BAD-BOX-OR-SUMS f (settled (first (pointsC arc from to .refusal) 0) (widenedBy b (pointsC arc from to .value)))) ≡ unless OUT-OF-RANGE e (unless BAD-BOX-OR-SUMS f (due (widenedBy b (pointsC arc from to .value))))
-    go true true h = ap (λ (r : ℕ). settled r (widenedBy b (pointsC arc from to .value))) (ap (λ (r : ℕ). first r 0) (h tt) ∙ zero-first 0) ∙ settled-none (widenedBy b (pointsC arc from to .value))
+    go : (e f : Bool) → (T e → points arc from to .refusal ≡ 0) → tried (unless OUT-OF-RANGE e passed) (unless BAD-BOX-OR-SUMS f (settled (first (points arc from to .refusal) 0) (widenedBy b (points arc from to .value)))) ≡ unless OUT-OF-RANGE e (unless BAD-BOX-OR-SUMS f (due (widenedBy b (points arc from to .value))))
+    go true true h = ap (λ (r : ℕ). settled r (widenedBy b (points arc from to .value))) (ap (λ (r : ℕ). first r 0) (h tt) ∙ zero-first 0) ∙ settled-none (widenedBy b (points arc from to .value))
     go true false h = refl
     go false f h = refl

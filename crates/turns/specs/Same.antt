@@ -22,9 +22,9 @@ use Rattle.angles.specs.Angles.{aheadC, backC}
 use Rattle.profiles.specs.declared.ProfileArc.{ProfileArc}
 use Rattle.profiles.specs.Profiles.{apartC, turnC, turnDue}
 use Rattle.arcs.specs.declared.Arc.{Arc}
-use Rattle.arcs.specs.Arcs.{sweepFromC, sweepC}
-use Rattle.arcs.specs.Entries.{arcWithin, endsWithin, sweepDue}
-use Rattle.arcs.specs.Laws.{rise, run}
+use Rattle.arcs.specs.Entries.{sweepDue}
+use Rattle.sweeps.specs.Sweeps.{circleWithin, endsWithin, sweepFromC, sweepC}
+use Rattle.sweeps.specs.Laws.{rise, run}
 use Rattle.bounds.specs.Parts.{nought, zero-round}
 use Rattle.bounds.specs.Intervals.{Upto, plain}
 use Rattle.bounds.specs.Unsigned.{plain-sign, plain-number}
@@ -156,30 +156,30 @@ dot-nought k a h =
 
 -- ---- `Arc::sweep`
 
-module _ (arc : Arc) (p : Vec3) (C : T (within3 (arc .center))) (A : T (within3 (arc .axis))) (P : T (within3 p)) where
+module _ (center axis : Vec3) (p : Vec3) (C : T (within3 center)) (A : T (within3 axis)) (P : T (within3 p)) where
   abbrev u : Vec3
-  u = minusC p (arc .center) .value
+  u = minusC p center .value
 
   small : Upto3 21 u
-  small = minus3 20 p (arc .center) (omega arith) (within-upto3 p P) (within-upto3 (arc .center) C)
+  small = minus3 20 p center (omega arith) (within-upto3 p P) (within-upto3 center C)
 
-  flat : (s : Bool) × (rise arc u p ≡ noughtOf s)
+  flat : (s : Bool) × (rise center axis u p ≡ noughtOf s)
   flat =
-      let d = dot-nought 20 (arc .axis) (within-upto3 (arc .axis) A) in
-      (d .0, ap (λ (v : Vec3). dotC (arc .axis) v .value) (cross-self 21 u (omega arith) small) ∙ d .1)
+      let d = dot-nought 20 axis (within-upto3 axis A) in
+      (d .0, ap (λ (v : Vec3). dotC axis v .value) (cross-self 21 u (omega arith) small) ∙ d .1)
 
-  flat-angle : atan2 (rise arc u p) (run arc u p) ≡ noughtOf (flat .0)
-  flat-angle = ap (λ (y : Float). atan2 y (run arc u p)) (flat .1) ∙ atan2-ahead (flat .0) (run arc u p) (dot-self 21 u (omega arith) small .0) (dot-self 21 u (omega arith) small .1)
+  flat-angle : atan2 (rise center axis u p) (run center u p) ≡ noughtOf (flat .0)
+  flat-angle = ap (λ (y : Float). atan2 y (run center u p)) (flat .1) ∙ atan2-ahead (flat .0) (run center u p) (dot-self 21 u (omega arith) small .0) (dot-self 21 u (omega arith) small .1)
 
-  pub sweep-same : sweepC arc p p .value ≡ tau
+  pub sweep-same : sweepC center axis p p .value ≡ tau
   unfolding sweepC sweepFromC
   sweep-same = ap (λ (t : Float). aheadC t .value) flat-angle ∙ ahead-zero (flat .0)
 
-pub sweep-whole : (arc : Arc) (p : Vec3) → sweepDue arc p p ≡ unless OUT-OF-RANGE (endsWithin arc p p) (due tau)
-unfolding sweepDue endsWithin arcWithin
-sweep-whole arc p = go (within3 (arc .center)) (within3 (arc .axis)) (within (arc .radius)) (within3 p) (λ C A P. λ i. settled (sweep-accepted arc p p C A P P i) (sweep-same arc p C A P i))
+pub sweep-whole : (arc : Arc) (p : Vec3) → sweepDue arc p p ≡ unless OUT-OF-RANGE (endsWithin (arc .center) (arc .axis) (arc .radius) p p) (due tau)
+unfolding sweepDue endsWithin circleWithin
+sweep-whole arc p = go (within3 (arc .center)) (within3 (arc .axis)) (within (arc .radius)) (within3 p) (λ C A P. λ i. settled (sweep-accepted (arc .center) (arc .axis) p p C A P P i) (sweep-same (arc .center) (arc .axis) p C A P i))
   where
-    go : (c a r q : Bool) → (T c → T a → T q → answered (sweepC arc p p) ≡ settled 0 tau) → unless OUT-OF-RANGE ((c && (a && r)) && (q && q)) (answered (sweepC arc p p)) ≡ unless OUT-OF-RANGE ((c && (a && r)) && (q && q)) (due tau)
+    go : (c a r q : Bool) → (T c → T a → T q → answered (sweepC (arc .center) (arc .axis) p p) ≡ settled 0 tau) → unless OUT-OF-RANGE ((c && (a && r)) && (q && q)) (answered (sweepC (arc .center) (arc .axis) p p)) ≡ unless OUT-OF-RANGE ((c && (a && r)) && (q && q)) (due tau)
     go true true true true h = h tt tt tt ∙ settled-none tau
     go true true true false h = refl
     go true true false q h = refl
@@ -197,6 +197,6 @@ half-a-turn = refl
 abbrev zeros3 : Bool → Vec3
 zeros3 s = space (noughtOf s) (noughtOf s) (noughtOf s)
 
-pub half-a-sweep : sweepC (record { center = zeros3 false; axis = space nought nought (fin false 1 (pos 0)); radius = fin false 1 (pos 0) }) (zeros3 false) (zeros3 true) .value ≡ pi
+pub half-a-sweep : sweepC (zeros3 false) (space nought nought (fin false 1 (pos 0))) (zeros3 false) (zeros3 true) .value ≡ pi
 unfolding sweepC sweepFromC minusC crossC dotC aheadC atan2 angle isOne choose add sub mul neg le lt eq toBits ofBits isNan
 half-a-sweep = refl

@@ -7,7 +7,7 @@ use lib.Dec.{T}
 use lib.Ieee.{Float, binary64, add, sub, mul, neg, le, lt, eq, fits, isNan, ofBits}
 use lib.Ieee.Fits.{and-l, and-r, add-fits, sub-fits}
 use lib.Ieee.Bits.{is-true}
-use Rattle.checked.specs.Checked.{isFinite, within, due, num, _⊕_, _⊖_}
+use Rattle.checked.specs.Checked.{isFinite, nine, within, due, num, _⊕_, _⊖_}
 use Rattle.checked.specs.Laws.{settled-none}
 use Rattle.order.specs.Order.{Number, le-numbers, le-trans-of, lt-le}
 use Rattle.checked.specs.Numbers.{zero, pi, tau}
@@ -20,14 +20,15 @@ use Rattle.profiles.specs.declared.ProfileArc.{ProfileArc}
 use Rattle.profiles.specs.Profiles.{apartC, turnC, turnDue}
 use Rattle.profiles.specs.Laws.{turn-refusal}
 use Rattle.arcs.specs.declared.Arc.{Arc}
-use Rattle.arcs.specs.Arcs.{sweepFromC, sweepC}
-use Rattle.arcs.specs.Entries.{arcWithin, endsWithin, sweepDue}
-use Rattle.arcs.specs.Laws.{rise, run, sweepFrom-refusal, sweep-refusal}
+use Rattle.sweeps.specs.Sweeps.{circleWithin, endsWithin, sweepFromC, sweepC}
+use Rattle.arcs.specs.Entries.{sweepDue}
+use Rattle.sweeps.specs.Laws.{rise, run, sweepFrom-noted, sweep-refusal}
 use Rattle.bounds.specs.Comparing.{lt-le-trans, le-lt-trans, not-le-lt}
 use Rattle.bounds.specs.Intervals.{In, Upto, in-add, in-sub, in-finite}
 use Rattle.bounds.specs.Powers.{pow, pow-finite, pow-mul, pow-add-of, pow-sub}
-use Rattle.turns.specs.Sizes.{Upto3, three-none, apart2, within-upto3, minus3, dot3, cross3}
-use Rattle.ranges.specs.Quadrants.{Angle, atan2-range}
+use Rattle.turns.specs.Sizes.{Upto3, none, nine-none, three-none, apart2, within-upto3, minus3, dot3, cross3}
+use Rattle.ranges.specs.Quadrants.{Angle, atan2-range, atan2-finite}
+use Rattle.ranges.specs.Fitting.{atan2-fits}
 
 -- above 0 and at most 2π, or below 0 and at least −2π
 abbrev pub Turn : Bool → Float → Type 0
@@ -93,63 +94,90 @@ module _ (arc : ProfileArc) (a b : Vec2) (C : T (within2 (arc .center))) (A : T 
   W : Upto (pow 21) (sub binary64 (b .x) (arc .center .x)) × Upto (pow 21) (sub binary64 (b .y) (arc .center .y))
   W = apart2 (arc .center) b C B
 
-  product : (x y : Float) → Upto (pow 21) x → Upto (pow 21) y → Upto (pow 42) (mul binary64 x y)
-  product x y p q = pow-mul 21 21 x y (omega arith) p q
+  product : (m n : Float) → Upto (pow 21) m → Upto (pow 21) n → Upto (pow 42) (mul binary64 m n)
+  product m n p q = pow-mul 21 21 m n (omega arith) p q
 
-  crossed : T (isFinite (sub binary64 (mul binary64 (u .x) (v .y)) (mul binary64 (u .y) (v .x))))
-  unfolding apartC
-  crossed = pow-finite 43 (sub binary64 (mul binary64 (u .x) (v .y)) (mul binary64 (u .y) (v .x))) (pow-sub 42 (mul binary64 (u .x) (v .y)) (mul binary64 (u .y) (v .x)) (omega arith) (product (u .x) (v .y) (U .0) (W .1)) (product (u .y) (v .x) (U .1) (W .0)))
+  -- the two numbers that the arctangent takes
+  abbrev y : Float
+  y = sub binary64 (mul binary64 (u .x) (v .y)) (mul binary64 (u .y) (v .x))
 
-  dotted : T (isFinite (add binary64 (mul binary64 (u .x) (v .x)) (mul binary64 (u .y) (v .y))))
+  abbrev x : Float
+  x = add binary64 (mul binary64 (u .x) (v .x)) (mul binary64 (u .y) (v .y))
+
+  fits-y : T (fits binary64 y)
+  fits-y = sub-fits binary64 (mul binary64 (u .x) (v .y)) (mul binary64 (u .y) (v .x))
+
+  fits-x : T (fits binary64 x)
+  fits-x = add-fits binary64 (mul binary64 (u .x) (v .x)) (mul binary64 (u .y) (v .y))
+
+  crossed : T (isFinite y)
   unfolding apartC
-  dotted = pow-finite 43 (add binary64 (mul binary64 (u .x) (v .x)) (mul binary64 (u .y) (v .y))) (pow-add-of 42 (mul binary64 (u .x) (v .x)) (mul binary64 (u .y) (v .y)) (omega arith) (product (u .x) (v .x) (U .0) (W .0)) (product (u .y) (v .y) (U .1) (W .1)))
+  crossed = pow-finite 43 y (pow-sub 42 (mul binary64 (u .x) (v .y)) (mul binary64 (u .y) (v .x)) (omega arith) (product (u .x) (v .y) (U .0) (W .1)) (product (u .y) (v .x) (U .1) (W .0)))
+
+  dotted : T (isFinite x)
+  unfolding apartC
+  dotted = pow-finite 43 x (pow-add-of 42 (mul binary64 (u .x) (v .x)) (mul binary64 (u .y) (v .y)) (omega arith) (product (u .x) (v .x) (U .0) (W .0)) (product (u .y) (v .y) (U .1) (W .1)))
 
   turned : (ccw : Bool) (t : Float) → Angle t → Turn ccw (cond ccw (aheadC t) (backC t) .value)
   turned true t h = ahead-turn t h
   turned false t h = back-turn t h
 
+  -- the arctangent, in [−π, π]
+  pub turn-angle : Angle (atan2 y x)
+  turn-angle = atan2-range y x crossed dotted fits-y fits-x
+
+  pub turn-fits : T (fits binary64 (atan2 y x))
+  turn-fits = atan2-fits y x fits-y
+
   pub turn-range : Turn (arc .ccw) (turnC arc a b .value)
   unfolding turnC
-  turn-range = turned (arc .ccw) _ (atan2-range (sub binary64 (mul binary64 (u .x) (v .y)) (mul binary64 (u .y) (v .x))) (add binary64 (mul binary64 (u .x) (v .x)) (mul binary64 (u .y) (v .y))) crossed dotted (sub-fits binary64 (mul binary64 (u .x) (v .y)) (mul binary64 (u .y) (v .x))) (add-fits binary64 (mul binary64 (u .x) (v .x)) (mul binary64 (u .y) (v .y))))
+  turn-range = turned (arc .ccw) (atan2 y x) turn-angle
 
   pub turn-accepted : turnC arc a b .refusal ≡ 0
   turn-accepted =
       turn-refusal arc a b
-      ∙ three-none (sub binary64 (mul binary64 (u .x) (v .y)) (mul binary64 (u .y) (v .x))) (add binary64 (mul binary64 (u .x) (v .x)) (mul binary64 (u .y) (v .y))) (turnC arc a b .value) crossed dotted (turn-finite (arc .ccw) (turnC arc a b .value) turn-range)
+      ∙ none _ (nine (turnC arc a b .value)) (three-none y x (atan2 y x) crossed dotted (atan2-finite y x crossed dotted fits-y fits-x)) (nine-none (turnC arc a b .value) (turn-finite (arc .ccw) (turnC arc a b .value) turn-range))
 
 -- ---- `Arc::sweep`, from a start that lies at u from the centre to a point that lies at most 2 ^ k from it in each coordinate
 
-module _ (arc : Arc) (j k : ℕ) (u p : Vec3) (small : j + k ≤ 990) (A : Upto3 20 (arc .axis)) (U : Upto3 j u) (W : Upto3 k (minusC p (arc .center) .value)) where
+module _ (center axis : Vec3) (j k : ℕ) (u p : Vec3) (small : j + k ≤ 990) (A : Upto3 20 axis) (U : Upto3 j u) (W : Upto3 k (minusC p center .value)) where
   abbrev reached : Vec3
-  reached = minusC p (arc .center) .value
+  reached = minusC p center .value
 
-  rise-finite : T (isFinite (rise arc u p))
-  rise-finite = pow-finite (suc (suc (20 + suc (j + k)))) (rise arc u p) (dot3 20 (suc (j + k)) (arc .axis) (crossC u reached .value) (omega arith) A (cross3 j k u reached (omega arith) U W))
+  rise-finite : T (isFinite (rise center axis u p))
+  rise-finite = pow-finite (suc (suc (20 + suc (j + k)))) (rise center axis u p) (dot3 20 (suc (j + k)) axis (crossC u reached .value) (omega arith) A (cross3 j k u reached (omega arith) U W))
 
-  run-finite : T (isFinite (run arc u p))
-  run-finite = pow-finite (suc (suc (j + k))) (run arc u p) (dot3 j k u reached (omega arith) U W)
+  run-finite : T (isFinite (run center u p))
+  run-finite = pow-finite (suc (suc (j + k))) (run center u p) (dot3 j k u reached (omega arith) U W)
 
   dot-fits : (a b : Vec3) → T (fits binary64 (dotC a b .value))
   unfolding dotC
   dot-fits a b = add-fits binary64 (add binary64 (mul binary64 (a .x) (b .x)) (mul binary64 (a .y) (b .y))) (mul binary64 (a .z) (b .z))
 
-  pub sweepFrom-range : Turn true (sweepFromC arc u p .value)
+  -- the arctangent, in [−π, π]
+  pub sweepFrom-angle : Angle (atan2 (rise center axis u p) (run center u p))
+  sweepFrom-angle = atan2-range (rise center axis u p) (run center u p) rise-finite run-finite (dot-fits axis (crossC u reached .value)) (dot-fits u reached)
+
+  pub sweepFrom-fits : T (fits binary64 (atan2 (rise center axis u p) (run center u p)))
+  sweepFrom-fits = atan2-fits (rise center axis u p) (run center u p) (dot-fits axis (crossC u reached .value))
+
+  pub sweepFrom-range : Turn true (sweepFromC center axis u p .value)
   unfolding sweepFromC
-  sweepFrom-range = ahead-turn (atan2 (rise arc u p) (run arc u p)) (atan2-range (rise arc u p) (run arc u p) rise-finite run-finite (dot-fits (arc .axis) (crossC u reached .value)) (dot-fits u reached))
+  sweepFrom-range = ahead-turn (atan2 (rise center axis u p) (run center u p)) sweepFrom-angle
 
-  pub sweepFrom-accepted : sweepFromC arc u p .refusal ≡ 0
-  sweepFrom-accepted = sweepFrom-refusal arc u p ∙ three-none (rise arc u p) (run arc u p) (sweepFromC arc u p .value) rise-finite run-finite (turn-finite true (sweepFromC arc u p .value) sweepFrom-range)
+  pub sweepFrom-accepted : sweepFromC center axis u p .refusal ≡ 0
+  sweepFrom-accepted = sweepFrom-noted center axis u p ∙ three-none (rise center axis u p) (run center u p) (sweepFromC center axis u p .value) rise-finite run-finite (turn-finite true (sweepFromC center axis u p .value) sweepFrom-range)
 
-module _ (arc : Arc) (from to : Vec3) (C : T (within3 (arc .center))) (A : T (within3 (arc .axis))) (P : T (within3 from)) (Q : T (within3 to)) where
-  away : (p : Vec3) → T (within3 p) → Upto3 21 (minusC p (arc .center) .value)
-  away p P = minus3 20 p (arc .center) (omega arith) (within-upto3 p P) (within-upto3 (arc .center) C)
+module _ (center axis : Vec3) (from to : Vec3) (C : T (within3 center)) (A : T (within3 axis)) (P : T (within3 from)) (Q : T (within3 to)) where
+  pub away : (p : Vec3) → T (within3 p) → Upto3 21 (minusC p center .value)
+  away p P = minus3 20 p center (omega arith) (within-upto3 p P) (within-upto3 center C)
 
-  pub sweep-range : Turn true (sweepC arc from to .value)
+  pub sweep-range : Turn true (sweepC center axis from to .value)
   unfolding sweepC
-  sweep-range = sweepFrom-range arc 21 21 (minusC from (arc .center) .value) to (omega arith) (within-upto3 (arc .axis) A) (away from P) (away to Q)
+  sweep-range = sweepFrom-range center axis 21 21 (minusC from center .value) to (omega arith) (within-upto3 axis A) (away from P) (away to Q)
 
-  pub sweep-accepted : sweepC arc from to .refusal ≡ 0
-  sweep-accepted = sweep-refusal arc from to ∙ sweepFrom-accepted arc 21 21 (minusC from (arc .center) .value) to (omega arith) (within-upto3 (arc .axis) A) (away from P) (away to Q)
+  pub sweep-accepted : sweepC center axis from to .refusal ≡ 0
+  sweep-accepted = sweep-refusal center axis from to ∙ sweepFrom-accepted center axis 21 21 (minusC from center .value) to (omega arith) (within-upto3 axis A) (away from P) (away to Q)
 
 -- ---- the answers of the two entries, for all arguments
 
@@ -161,28 +189,30 @@ turn-answer arc a b h =
     let B = and-r (within2 a) (within2 b) ab in
     (unfold turnDue in simp (is-true (within2 (arc .center) && (within2 a && within2 b)) h, turn-accepted arc a b C A B, settled-none), turn-range arc a b C A B)
 
-pub record Handed (arc : Arc) (from to : Vec3) : Type 0 where
-  pub center : T (within3 (arc .center))
-  pub axis : T (within3 (arc .axis))
-  pub radius : T (within (arc .radius))
+-- every number of an arc and of its ends passes the test of what is handed in
+pub record Handed (c a : Vec3) (r : Float) (from to : Vec3) : Type 0 where
+  pub center : T (within3 c)
+  pub axis : T (within3 a)
+  pub radius : T (within r)
   pub start : T (within3 from)
   pub end : T (within3 to)
 
-pub handed-in : (arc : Arc) (from to : Vec3) → T (endsWithin arc from to) → Handed arc from to
-unfolding endsWithin arcWithin
-handed-in arc from to h =
-    let a = and-l (within3 (arc .center) && (within3 (arc .axis) && within (arc .radius))) (within3 from && within3 to) h in
-    let e = and-r (within3 (arc .center) && (within3 (arc .axis) && within (arc .radius))) (within3 from && within3 to) h in
-    let r = and-r (within3 (arc .center)) (within3 (arc .axis) && within (arc .radius)) a in
+pub handed-in : (center axis : Vec3) (radius : Float) (from to : Vec3) → T (endsWithin center axis radius from to) → Handed center axis radius from to
+unfolding endsWithin circleWithin
+handed-in center axis radius from to h =
+    let a = and-l (within3 center && (within3 axis && within radius)) (within3 from && within3 to) h in
+    let e = and-r (within3 center && (within3 axis && within radius)) (within3 from && within3 to) h in
+    let r = and-r (within3 center) (within3 axis && within radius) a in
     record {
-      center = and-l (within3 (arc .center)) (within3 (arc .axis) && within (arc .radius)) a;
-      axis = and-l (within3 (arc .axis)) (within (arc .radius)) r;
-      radius = and-r (within3 (arc .axis)) (within (arc .radius)) r;
+      center = and-l (within3 center) (within3 axis && within radius) a;
+      axis = and-l (within3 axis) (within radius) r;
+      radius = and-r (within3 axis) (within radius) r;
       start = and-l (within3 from) (within3 to) e;
       end = and-r (within3 from) (within3 to) e;
     }
 
-pub sweep-answer : (arc : Arc) (from to : Vec3) → T (endsWithin arc from to) → (sweepDue arc from to ≡ due (sweepC arc from to .value)) × Turn true (sweepC arc from to .value)
+pub sweep-answer : (arc : Arc) (from to : Vec3) → T (endsWithin (arc .center) (arc .axis) (arc .radius) from to)
+    → (sweepDue arc from to ≡ due (sweepC (arc .center) (arc .axis) from to .value)) × Turn true (sweepC (arc .center) (arc .axis) from to .value)
 sweep-answer arc from to h =
-    let g = handed-in arc from to h in
-    (unfold sweepDue in simp (is-true (endsWithin arc from to) h, sweep-accepted arc from to (g .center) (g .axis) (g .start) (g .end), settled-none), sweep-range arc from to (g .center) (g .axis) (g .start) (g .end))
+    let g = handed-in (arc .center) (arc .axis) (arc .radius) from to h in
+    (unfold sweepDue in simp (is-true (endsWithin (arc .center) (arc .axis) (arc .radius) from to) h, sweep-accepted (arc .center) (arc .axis) from to (g .center) (g .axis) (g .start) (g .end), settled-none), sweep-range (arc .center) (arc .axis) from to (g .center) (g .axis) (g .start) (g .end))
