@@ -1,0 +1,31 @@
+use borrow.Author.Needs.{needs}
+use Rattle.measures.specs.Measures.{placeC}
+use Rattle.checked.specs.Laws.{rules as checked-rules}
+use Rattle.measures.proofs.place.Statement.{statement}
+use Rattle.measures.proofs.place.Tie as tie
+
+int-to-float-t : tie.Need-int-to-float-t
+int-to-float-t c = search needs
+
+at-requires : tie.Need-at-requires
+at-requires c κs = search needs
+
+note-requires : tie.Need-note-requires
+note-requires c κs = search needs
+
+earlier-requires : tie.Need-earlier-requires
+earlier-requires c κs = search needs
+
+returns : tie.Need-returns
+unfolding placeC
+returns c = (simp (c .earlier .ensures, c .before .note .ensures, c .before .before .before .at .ensures .0, checked-rules), simp (c .before .before .before .at .ensures .1))
+
+pub place-spec : {M : Type 1} → statement M
+place-spec =
+    tie.close
+    (tie.spec
+    int-to-float-t
+    at-requires
+    note-requires
+    earlier-requires
+    returns)

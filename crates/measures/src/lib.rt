@@ -1,0 +1,166 @@
+// A piece's radius, how far it turns and its length, on numbers of any size.
+ghost use mathlib.Core.Path.{_≡_};
+ghost use Rattle.measures.specs.Measures.{distanceC, placeC, longerC, furtherC, tracedC, segmentC, arcC, measureC};
+use arctangent::atan2;
+use checked::CheckedNumber;
+use checked::earlier;
+use checked::note;
+use courses::CheckedPlace;
+use profiles::ProfileArc;
+use roots::hypot;
+use run_points::at;
+use runs::Run;
+use runs::Way;
+use vectors::Vec2;
+use words::fabs;
+
+// The radius is 0 but for an arc.
+pub struct Measure {
+    pub radius: f64,
+    pub turn: f64,
+    pub length: f64,
+}
+
+pub struct CheckedMeasure {
+    pub value: Measure,
+    pub refusal: u8,
+}
+
+// How far b is from a.
+pub fn distance(a: Vec2, b: Vec2) -> CheckedNumber
+    ensures refusal { λ r. ⌜ r .refusal ≡ distanceC a b .refusal ⌝ }
+    ensures value { λ r. ⌜ r .value ≡ distanceC a b .value ⌝ }
+{
+    let x = b.x - a.x;
+    let y = b.y - a.y;
+    let d = hypot(x, y);
+    CheckedNumber {
+        refusal: note(note(note(0, x), y), d),
+        value: d,
+    }
+}
+
+// The place after k of 32 chords.
+fn place(r: Run, k: u16) -> CheckedPlace
+    ensures refusal { λ o. ⌜ o .refusal ≡ placeC r k .refusal ⌝ }
+    ensures value { λ o. ⌜ o .value ≡ placeC r k .value ⌝ }
+{
+    let t = (k as f64) / 32.0;
+    let p = at(r, t);
+    let v = p.value;
+    CheckedPlace {
+        refusal: earlier(note(0, t), p.refusal),
+        value: v,
+    }
+}
+
+// A length and the chord from a to b.
+fn longer(s: f64, a: Vec2, b: Vec2) -> CheckedNumber
+    ensures refusal { λ r. ⌜ r .refusal ≡ longerC s a b .refusal ⌝ }
+    ensures value { λ r. ⌜ r .value ≡ longerC s a b .value ⌝ }
+{
+    let d = distance(a, b);
+    let l = s + d.value;
+    CheckedNumber {
+        refusal: note(d.refusal, l),
+        value: l,
+    }
+}
+
+// A turn and that from the direction u to v.
+fn further(s: f64, u: Vec2, v: Vec2) -> CheckedNumber
+    ensures refusal { λ r. ⌜ r .refusal ≡ furtherC s u v .refusal ⌝ }
+    ensures value { λ r. ⌜ r .value ≡ furtherC s u v .value ⌝ }
+{
+    let y = u.x * v.y - u.y * v.x;
+    let x = u.x * v.x + u.y * v.y;
+    let a = atan2(y, x);
+    let t = s + fabs(a);
+    CheckedNumber {
+        refusal: note(note(note(note(0, y), x), a), t),
+        value: t,
+    }
+}
+
+// A trace as 32 chords. A refusal of a place comes before any of a chord.
+fn traced(r: Run) -> CheckedMeasure
+    ensures refusal { λ o. ⌜ o .refusal ≡ tracedC r .refusal ⌝ }
+    ensures value { λ o. ⌜ o .value ≡ tracedC r .value ⌝ }
+{
+    let start = place(r, 0);
+    let mut before = start.value;
+    let mut rp: u8 = start.refusal;
+    let mut length = 0.0;
+    let mut rl: u8 = 0;
+    let mut turn = 0.0;
+    let mut rt: u8 = 0;
+    let mut k: u16 = 0;
+    while k < 32 {
+        let next = place(r, k + 1);
+        let after = next.value;
+        let l = longer(length, before.p, after.p);
+        let a = further(turn, before.d, after.d);
+        length = l.value;
+        rl = earlier(rl, l.refusal);
+        turn = a.value;
+        rt = earlier(rt, a.refusal);
+        before = after;
+        rp = earlier(rp, next.refusal);
+        k += 1;
+    }
+    CheckedMeasure {
+        refusal: earlier(rp, earlier(rl, rt)),
+        value: Measure {
+            radius: 0.0,
+            turn: turn,
+            length: length,
+        },
+    }
+}
+
+fn segment(from: Vec2, to: Vec2) -> CheckedMeasure
+    ensures refusal { λ r. ⌜ r .refusal ≡ segmentC from to .refusal ⌝ }
+    ensures value { λ r. ⌜ r .value ≡ segmentC from to .value ⌝ }
+{
+    let d = distance(from, to);
+    CheckedMeasure {
+        refusal: d.refusal,
+        value: Measure {
+            radius: 0.0,
+            turn: 0.0,
+            length: d.value,
+        },
+    }
+}
+
+fn arc_measure(a: ProfileArc, from: Vec2, to: Vec2) -> CheckedMeasure
+    ensures refusal { λ r. ⌜ r .refusal ≡ arcC a from to .refusal ⌝ }
+    ensures value { λ r. ⌜ r .value ≡ arcC a from to .value ⌝ }
+{
+    let c = a.center;
+    let d = distance(c, from);
+    let k = profiles::formula::turn(a, from, to);
+    let turn = fabs(k.value);
+    let length = d.value * turn;
+    CheckedMeasure {
+        refusal: note(earlier(d.refusal, k.refusal), length),
+        value: Measure {
+            radius: d.value,
+            turn: turn,
+            length: length,
+        },
+    }
+}
+
+pub fn measure_of(r: Run) -> CheckedMeasure
+    ensures refusal { λ o. ⌜ o .refusal ≡ measureC r .refusal ⌝ }
+    ensures value { λ o. ⌜ o .value ≡ measureC r .value ⌝ }
+{
+    let w = r.way;
+    match w {
+        Way::Straight => segment(r.from, r.to),
+        Way::Arc(a) => arc_measure(a, r.from, r.to),
+        Way::Wave(_) => traced(r),
+        Way::Meet(_) => traced(r),
+    }
+}
