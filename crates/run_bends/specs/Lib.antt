@@ -1,0 +1,2 @@
+pub mod Bends
+pub mod Laws
