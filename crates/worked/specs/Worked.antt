@@ -8,7 +8,7 @@ use lib.ListN.{length}
 use lib.Ieee.{Float, binary64, add, sub, mul, div, neg, lt, le, eq, isNan, ofBits, toBits, ofInt, toUnsigned, toSigned}
 use Rattle.checked.specs.Checked.{Due, due, refused, first, isFinite, nine, eight, within, settled}
 use Rattle.checked.specs.Patterns.{bits}
-use Rattle.checked.specs.Numbers.{zero, one}
+use Rattle.checked.specs.Numbers.{zero, one, two, three, float}
 use Rattle.words.specs.Words.{fabs, signed, choose}
 use Rattle.rounding.specs.Root.{sqrt}
 use Rattle.rounding.specs.Whole.{ceil}
@@ -38,6 +38,18 @@ use Rattle.cuts.specs.Cuts.{chordWithin, cutC, innerC, innersDue}
 use Rattle.arcs.specs.declared.Arc.{Arc}
 use Rattle.arcs.specs.Arcs.{reversedC}
 use Rattle.arcs.specs.Entries.{reversedDue, sweepDue, extendDue, innerPointsDue}
+use Rattle.handed.specs.Handed.{handed, passing}
+use Rattle.wave_values.specs.Values.{jetC}
+use Rattle.waves.specs.declared.Wave.{Wave}
+use Rattle.waves.specs.Entries.{waveWithin, atDue}
+use Rattle.pipes.specs.Pipes.{ownC, lesserC, reachC}
+use Rattle.reaches.specs.Reaches.{heightC as zC}
+use Rattle.meets.specs.declared.Turn.the-variants as turn
+use Rattle.meets.specs.declared.Meet.{Meet}
+use Rattle.meets.specs.Meets.{pipeC, heightC}
+use Rattle.meets.specs.Entries.{turnWithin, meetWithin}
+use Rattle.traces.specs.declared.Trace.the-variants as trace
+use Rattle.traces.specs.Traces.{some, meetHeightC, meetC, vC, traceWithin, vDue}
 use Rattle.decimals.specs.Thousandths.{signed as signedWhole, thousandths}
 use Rattle.decimals.specs.Digits.{spelled, digits, numeral}
 use Rattle.edge_lines.specs.Lines.{bytes, spaced, corner, emptyLine, refusedLine, boxLine}
@@ -56,6 +68,10 @@ pub data Case : Type 0 where
   boxed : Arc → Vec3 → Vec3 → Vec3 → Vec3 → Case
   -- the turn of a profile arc
   turns : ProfileArc → Vec2 → Vec2 → Float → Case
+  -- v of a wave at u for a neutral radius, its first and its second derivative
+  waves : Wave → Float → Float → Float → Float → Float → Case
+  -- v of a meet at u for a neutral radius
+  meets : Meet → Float → Float → Float → Case
   -- the line that is printed of a file
   prints : List ℕ → String → Case
 
@@ -71,6 +87,8 @@ Holds (sweeps arc from to angle) = sweepDue arc from to ≡ due angle
 Holds (draws arc from to chord n) = howMany (innerPointsDue arc from to chord 189) ≡ due n
 Holds (boxed arc from to low high) = extendDue arc from to empty ≡ due (record { low = low; high = high })
 Holds (turns arc a b angle) = turnDue arc a b ≡ due angle
+Holds (waves w u n v slope bend) = atDue w u n ≡ due (record { v = v; slope = slope; bend = bend })
+Holds (meets m u n v) = vDue (trace.Meet m) u n ≡ due (some v)
 Holds (prints file line) = lineOf file ≡ bytes line
 
 abbrev pub All : List Case → Type 0
@@ -110,6 +128,14 @@ west = space (neg five) zero zero
 abbrev clockwise : ProfileArc
 clockwise = record { center = plane zero zero; ccw = false }
 
+-- v = 2 + 3·cos(u / n)
+abbrev swing : Wave
+swing = record { a = two; b = three; c = zero }
+
+-- the cylinder of radius 10 along x, 20 above the origin, met by the development's own pipe
+abbrev main : Meet
+main = record { origin = space zero zero (float 20); axis = space one zero zero; radius = float 10; own = one; turn = turn.Without }
+
 -- ---- an edge file
 -- n as k bytes, low byte first
 unfoldable inBytes : ℕ → ℕ → List ℕ
@@ -147,9 +173,11 @@ cases =
     ∷ boxed A east west (space (neg five) zero zero) (space five five zero)
     ∷ prints (arcRecord A east west ++ endRecord) "box -5000 0 0 5000 5000 0\n"
     ∷ turns clockwise (plane five zero) (plane five zero) (neg fullTurn)
+    ∷ waves swing zero (float 10) five zero (div binary64 (neg three) (float 100))
+    ∷ meets main zero five (float 10)
     ∷ []
 
 -- every case computes
 pub all-hold : All cases
-unfolding cases add sub mul div neg lt le eq isNan ofBits toBits first isFinite nine within settled fabs signed choose sqrt reduced atan isOne ratioAngle angle atan2 negative least greatest within2 within3 plusC minusC timesC negC crossC dotC lesser greater widened widenedBy numbers free boxCall lengthC acrossC aheadC backC apartC turnC turnDue sweepFromC sweepC sideC takenC bothC extremesC pointsC circleWithin endsWithin chordWithin sweepDue extendDue reversedC reversedDue inBytes number point arcRecord signedWhole thousandths spelled digits numeral bytes spaced corner emptyLine refusedLine boxLine lowFirst numberAt pointAt tagged headOf kindOf edgeOf recordOf sizeOf next printed ended lineFrom lineOf ofInt toUnsigned toSigned eight ceil secondRound medium toFive toNine remPio2 turnedSines sines sinesOrZeros acosFar acosNear acos quotientC chordsC clamped perTurnC limitedC countC upTo spokeC turnedC atC cutC innerC innersDue innerPointsDue
-all-hold = (refl, (refl, (refl, (refl, (refl, (refl, (refl, (refl, (refl, (refl, (refl, (refl, (refl, tt)))))))))))))
+unfolding cases add sub mul div neg lt le eq isNan ofBits toBits first isFinite nine within settled fabs signed choose sqrt reduced atan isOne ratioAngle angle atan2 negative least greatest within2 within3 plusC minusC timesC negC crossC dotC lesser greater widened widenedBy numbers free boxCall lengthC acrossC aheadC backC apartC turnC turnDue sweepFromC sweepC sideC takenC bothC extremesC pointsC circleWithin endsWithin chordWithin sweepDue extendDue reversedC reversedDue inBytes number point arcRecord signedWhole thousandths spelled digits numeral bytes spaced corner emptyLine refusedLine boxLine lowFirst numberAt pointAt tagged headOf kindOf edgeOf recordOf sizeOf next printed ended lineFrom lineOf ofInt toUnsigned toSigned eight ceil secondRound medium toFive toNine remPio2 turnedSines sines sinesOrZeros acosFar acosNear acos quotientC chordsC clamped perTurnC limitedC countC upTo spokeC turnedC atC cutC innerC innersDue innerPointsDue handed passing jetC waveWithin atDue ownC lesserC reachC zC pipeC heightC turnWithin meetWithin meetHeightC meetC vC traceWithin vDue
+all-hold = (refl, (refl, (refl, (refl, (refl, (refl, (refl, (refl, (refl, (refl, (refl, (refl, (refl, (refl, (refl, tt)))))))))))))))
