@@ -5,10 +5,10 @@ use mathlib.Core.Logic.{_⊎_, inl, inr}
 use mathlib.Core.Bool.{Bool, true, false, not, cond, _&&_, _||_}
 use mathlib.Core.List.{List, []}
 use Prim.Native.Nat as N
-use Prim.Native.Nat.{ℕ, suc, _+_, _-_, _*_, _/_, _≤_, _<_}
+use Prim.Native.Nat.{ℕ, suc, _+_, _-_, _*_, _/_, _^_, _≤_, _<_}
 use native.Mathlib.Nat.{zero-lt-suc, div-lt-iff-lt-mul, mul-one, one-mul}
 use native.Mathlib.Omega.{arith}
-use lib.Dec.{T, eqb, leb}
+use lib.Dec.{T, leb}
 use lib.IntN.{pos, negsuc}
 use lib.Ieee.{Float, nan, inf, fin, binary64, up, down, round, mul, div, neg, le, lt, eq, ofBits, ofInt, toUnsigned}
 use lib.Ieee.Fits.{and-i, and-l, and-r, down-pos}
@@ -41,7 +41,7 @@ use Rattle.cuts.specs.Cuts.{chordWithin, cutC, innerC, innersDue}
 use Rattle.cuts.specs.Laws.{cut-refusal, rimmed, inners-are}
 use Rattle.arcs.specs.declared.Arc.{Arc}
 use Rattle.arcs.specs.Entries.{innerPointsDue}
-use Rattle.bounds.specs.Parts.{nought, above, under, den}
+use Rattle.bounds.specs.Parts.{nought, plus, minus}
 use Rattle.bounds.specs.Intervals.{In, Upto, upto-in, in-upto, upto-parts, upto-mul, upto-wider, fabs-round, finite-number, le-fabs}
 use Rattle.bounds.specs.Own.{unit, above-zero, div-most}
 use Rattle.bounds.specs.Powers.{pow, pow-finite, pow-mul, pow-div, pow-wider}
@@ -49,6 +49,11 @@ use Rattle.turns.specs.Sizes.{none, nine-none}
 use Rattle.turns.specs.Turns.{Turn, Handed, handed-in, sweep-range, sweep-accepted}
 use Rattle.turns.specs.PerTurn.{per-turn-accepted, per-turn-range}
 use Rattle.turns.specs.At.{offLength, spoke-found, spoke-missed, turned-accepted}
+
+-- no point is due
+abbrev pub isNone : ℕ → Bool
+isNone N.zero = true
+isNone (suc m) = false
 
 -- ---- whole numbers from a number of magnitude at most 64
 
@@ -61,7 +66,7 @@ ceil-size (fin s m e) h =
     subst (λ (v : Float). T (le v (pow 6))) (sym (fabs-round binary64 s k 1))
     (unfold round in round-mono binary64 k 1 64 1 (zero-lt-suc 0) (zero-lt-suc 0) (most-whole s (m * up e) (down e) (down-pos e) (parts s (m * up e) (down e) (upto-parts (fin s m e) (pow 6) tt h))))
   where
-    parts : (s : Bool) (n d : ℕ) → (cond s 0 n + cond s n 0) * 1 ≤ 64 * d → n ≤ 64 * d
+    parts : (s : Bool) (n d : ℕ) → (plus s n + minus s n) * 1 ≤ 1 * 2 ^ 6 * d → n ≤ 64 * d
     parts true n d h = omega arith
     parts false n d h = omega arith
 
@@ -131,6 +136,18 @@ angle-within turn n k h N L K =
 
 -- ---- the points
 
+tau-facts : T (isFinite tau) × T (lt nought tau)
+unfolding isFinite lt ofBits
+tau-facts = (tt, tt)
+
+tau-size : fabs tau ≡ tau
+unfolding fabs ofBits
+tau-size = refl
+
+tau-below : T (le (neg tau) zero)
+unfolding neg le lt eq ofBits
+tau-below = tt
+
 module _ (center axis : Vec3) (radius : Float) (from to : Vec3) (chord : Float) (H : Handed center axis radius from to) (W : T (within chord)) (P : T (not (lt chord zero))) where
   abbrev turn : Float
   turn = sweepC center axis from to .value
@@ -143,8 +160,8 @@ module _ (center axis : Vec3) (radius : Float) (from to : Vec3) (chord : Float) 
 
   part-upto : Upto unit part
   part-upto =
-      div-most turn tau (unfold isFinite ofBits in tt) (above-zero tau (unfold isFinite ofBits in tt) (unfold lt ofBits in tt))
-      (subst (λ (v : Float). T (le (fabs turn) v)) (unfold fabs ofBits in refl) (in-upto tau turn (le-trans-of (neg tau) zero turn (unfold neg le lt eq ofBits in tt) (lt-le zero turn (turned .0)), turned .1)))
+      div-most turn tau (tau-facts .0) (above-zero tau (tau-facts .0) (tau-facts .1))
+      (subst (λ (v : Float). T (le (fabs turn) v)) (sym tau-size) (in-upto tau turn (le-trans-of (neg tau) zero turn tau-below (lt-le zero turn (turned .0)), turned .1)))
 
   abbrev per : Float
   per = perTurnC radius chord .value
@@ -185,17 +202,19 @@ module _ (center axis : Vec3) (radius : Float) (from to : Vec3) (chord : Float) 
   rim = rimmed center axis radius from cut
 
   rim-accepted : T (lt zero (offLength center axis from)) → (k : ℕ) → 1 ≤ k → k ≤ points → rim k .refusal ≡ 0
+  unfolding cutC
   rim-accepted l k K L =
+      let t = div binary64 (mul binary64 turn (float k)) (float (cut .chords)) in
       rimAt-refusal (rimOf center axis (spokeC center axis radius from .value)) (cut .turn) (cut .chords) k
-      ∙ sym (turned-refusal center axis (spokeC center axis radius from .value) _)
-      ∙ turned-accepted center axis radius from _ (H .center) (H .axis) (H .radius) (H .start) (unfold cutC in angle-within turn (cut .chords) k turned (omega arith) chords-most (omega arith)) l
+      ∙ sym (turned-refusal center axis (spokeC center axis radius from .value) t)
+      ∙ turned-accepted center axis radius from t (H .center) (H .axis) (H .radius) (H .start) (angle-within turn (cut .chords) k turned (omega arith) chords-most (omega arith)) l
 
   all-accepted : T (lt zero (offLength center axis from)) → (m : ℕ) → m ≤ points → upTo rim m .refusal ≡ 0
   unfolding upTo
   all-accepted l N.zero h = refl
   all-accepted l (suc m) h = none _ _ (all-accepted l m (omega arith)) (first-zero (rim (suc m) .refusal) ∙ rim-accepted l (suc m) (omega arith) h)
 
-  refusal-is : (m : ℕ) → m ≤ points → allRefusal (spokeC center axis radius from .refusal) rim m ≡ cond (eqb m 0 || lt zero (offLength center axis from)) 0 NOT-FINITE
+  refusal-is : (m : ℕ) → m ≤ points → allRefusal (spokeC center axis radius from .refusal) rim m ≡ cond (isNone m || lt zero (offLength center axis from)) 0 NOT-FINITE
   unfolding allRefusal
   refusal-is N.zero h = refl
   refusal-is (suc m) h = by (lt zero (offLength center axis from)) refl
@@ -206,10 +225,10 @@ module _ (center axis : Vec3) (radius : Float) (from to : Vec3) (chord : Float) 
           none _ _ (spoke-found center axis radius from (H .center) (H .axis) (H .radius) (H .start) l) (all-accepted l (suc m) h)
       by false e = ap (λ (r : ℕ). first r (upTo rim (suc m) .refusal)) (spoke-missed center axis radius from (H .center) (H .axis) (H .radius) (H .start) e) ∙ (unfold first in refl)
 
-  settled-is : (room : ℕ) → innersDue center axis radius from cut room ≡ fits room points (cond (eqb points 0 || lt zero (offLength center axis from)) (due (upTo rim points .value)) (refused NOT-FINITE))
+  settled-is : (room : ℕ) → innersDue center axis radius from cut room ≡ fits room points (cond (isNone points || lt zero (offLength center axis from)) (due (upTo rim points .value)) (refused NOT-FINITE))
   settled-is room =
       inners-are center axis radius from cut room
-      ∙ (unfold allDue in ap (λ (d : Due (List Vec3)). fits room points d) (ap (λ (r : ℕ). settled r (upTo rim points .value)) (refusal-is points (omega arith)) ∙ by (eqb points 0 || lt zero (offLength center axis from))))
+      ∙ (unfold allDue in ap (λ (d : Due (List Vec3)). fits room points d) (ap (λ (r : ℕ). settled r (upTo rim points .value)) (refusal-is points (omega arith)) ∙ by (isNone points || lt zero (offLength center axis from))))
     where
       by : (b : Bool) → settled (cond b 0 NOT-FINITE) (upTo rim points .value) ≡ cond b (due (upTo rim points .value)) (refused NOT-FINITE)
       by true = settled-none (upTo rim points .value)
@@ -232,20 +251,20 @@ pub inner-answer : (arc : Arc) (from to : Vec3) (chord : Float) (room : ℕ)
     → innerPointsDue arc from to chord room
     ≡ unless OUT-OF-RANGE (chordWithin (arc .center) (arc .axis) (arc .radius) from to chord)
     (unless BAD-TOLERANCE (not (lt chord zero))
-    (fits room (pointsOf arc from to chord) (cond (eqb (pointsOf arc from to chord) 0 || lt zero (offLength (arc .center) (arc .axis) from)) (due (rimPoints arc from to chord)) (refused NOT-FINITE))))
+    (fits room (pointsOf arc from to chord) (cond (isNone (pointsOf arc from to chord) || lt zero (offLength (arc .center) (arc .axis) from)) (due (rimPoints arc from to chord)) (refused NOT-FINITE))))
 unfolding innerPointsDue chordWithin
 inner-answer arc from to chord room = by (endsWithin (arc .center) (arc .axis) (arc .radius) from to) (within chord) (not (lt chord zero)) (λ h w p. after (handed-in (arc .center) (arc .axis) (arc .radius) from to h) w p)
   where
     after : Handed (arc .center) (arc .axis) (arc .radius) from to → T (within chord) → T (not (lt chord zero))
         → andThen (answered (cutC (arc .center) (arc .axis) (arc .radius) from to chord)) (λ cut. innersDue (arc .center) (arc .axis) (arc .radius) from cut room)
-        ≡ fits room (pointsOf arc from to chord) (cond (eqb (pointsOf arc from to chord) 0 || lt zero (offLength (arc .center) (arc .axis) from)) (due (rimPoints arc from to chord)) (refused NOT-FINITE))
+        ≡ fits room (pointsOf arc from to chord) (cond (isNone (pointsOf arc from to chord) || lt zero (offLength (arc .center) (arc .axis) from)) (due (rimPoints arc from to chord)) (refused NOT-FINITE))
     after H w p =
         ap (λ (d : Due Cut). andThen d (λ cut. innersDue (arc .center) (arc .axis) (arc .radius) from cut room)) (ap (λ (r : ℕ). settled r (cutC (arc .center) (arc .axis) (arc .radius) from to chord .value)) (cut-accepted (arc .center) (arc .axis) (arc .radius) from to chord H w p) ∙ settled-none (cutC (arc .center) (arc .axis) (arc .radius) from to chord .value))
         ∙ settled-is (arc .center) (arc .axis) (arc .radius) from to chord H w p room
 
-    by : (h w p : Bool) → (T h → T w → T p → andThen (answered (cutC (arc .center) (arc .axis) (arc .radius) from to chord)) (λ cut. innersDue (arc .center) (arc .axis) (arc .radius) from cut room) ≡ fits room (pointsOf arc from to chord) (cond (eqb (pointsOf arc from to chord) 0 || lt zero (offLength (arc .center) (arc .axis) from)) (due (rimPoints arc from to chord)) (refused NOT-FINITE)))
+    by : (h w p : Bool) → (T h → T w → T p → andThen (answered (cutC (arc .center) (arc .axis) (arc .radius) from to chord)) (λ cut. innersDue (arc .center) (arc .axis) (arc .radius) from cut room) ≡ fits room (pointsOf arc from to chord) (cond (isNone (pointsOf arc from to chord) || lt zero (offLength (arc .center) (arc .axis) from)) (due (rimPoints arc from to chord)) (refused NOT-FINITE)))
         → unless OUT-OF-RANGE (h && w) (unless BAD-TOLERANCE p (andThen (answered (cutC (arc .center) (arc .axis) (arc .radius) from to chord)) (λ cut. innersDue (arc .center) (arc .axis) (arc .radius) from cut room)))
-        ≡ unless OUT-OF-RANGE (h && w) (unless BAD-TOLERANCE p (fits room (pointsOf arc from to chord) (cond (eqb (pointsOf arc from to chord) 0 || lt zero (offLength (arc .center) (arc .axis) from)) (due (rimPoints arc from to chord)) (refused NOT-FINITE))))
+        ≡ unless OUT-OF-RANGE (h && w) (unless BAD-TOLERANCE p (fits room (pointsOf arc from to chord) (cond (isNone (pointsOf arc from to chord) || lt zero (offLength (arc .center) (arc .axis) from)) (due (rimPoints arc from to chord)) (refused NOT-FINITE))))
     by true true true f = f tt tt tt
     by true true false f = refl
     by true false p f = refl

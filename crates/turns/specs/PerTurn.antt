@@ -7,9 +7,9 @@ use Prim.Native.Nat.{ℕ, suc, _+_, _-_, _*_, _/_, _≤_, _<_}
 use native.Mathlib.Nat.{zero-lt-suc, mul-pos}
 use native.Mathlib.Omega.{arith}
 use lib.Dec.{T, eqb}
-use lib.IntN.{pos}
+use lib.IntN.{ℤ, pos, negsuc}
 use lib.Ieee.{Float, nan, inf, fin, Format, binary64, up, down, round, unlike, sub, div, neg, le, lt, eq, fits, isNan, ofBits}
-use lib.Pow.{pow-pos}
+use borrow.Author.Tests.{eqb-false}
 use lib.Ieee.Fits.{sub-fits, and-l, and-r, down-pos, up-pos}
 use lib.Ieee.Bits.{is-true, is-false}
 use Rattle.checked.specs.Refusals.{OUT-OF-RANGE, BAD-TOLERANCE}
@@ -44,13 +44,24 @@ ceil-number nan h = h
 ceil-number (inf s) h = refl
 ceil-number (fin s m e) h = round-number s (cond s (floored (m * up e) (down e)) (ceiled (m * up e) (down e))) 1 (zero-lt-suc 0)
 
--- π over a finite number
+-- what is not zero, over a finite number
+over : (s : Bool) (m : ℕ) (d : ℤ) → eqb m 0 ≡ false → (a : Float) → T (isFinite a) → isNan (div binary64 (fin s m d) a) ≡ false
+unfolding div isFinite
+over s m d z nan A = absurd A
+over s m d z (inf t) A = absurd A
+over s m d z (fin t n e) A = by (eqb n 0) refl
+  where
+    some : (n : ℕ) → (n ≡ 0 → ⊥) → 0 < n
+    some N.zero h = absurd (h refl)
+    some (suc n) h = zero-lt-suc n
+
+    by : (b : Bool) → eqb n 0 ≡ b → isNan (cond b (cond (eqb m 0) nan (inf (unlike s t))) (round binary64 (unlike s t) (m * up d * down e) (n * up e * down d))) ≡ false
+    by true h = ap (λ (c : Bool). isNan (cond c nan (inf (unlike s t)))) z ∙ (unfold isNan in refl)
+    by false h = round-number (unlike s t) (m * up d * down e) (n * up e * down d) (mul-pos (mul-pos (some n (eqb-false n 0 h)) (up-pos e)) (down-pos d))
+
 over-number : (a : Float) → T (isFinite a) → isNan (div binary64 pi a) ≡ false
-unfolding div isFinite isNan ofBits
-over-number nan A = absurd A
-over-number (inf s) A = absurd A
-over-number (fin t N.zero e) A = refl
-over-number (fin t (suc n) e) A = round-number (unlike false t) _ _ (mul-pos (mul-pos (zero-lt-suc n) (up-pos e)) (pow-pos 48))
+unfolding ofBits
+over-number a A = over false 0x3243f6a8885a3 (negsuc 47) refl a A
 
 -- ---- a number brought into 12 to 64
 
