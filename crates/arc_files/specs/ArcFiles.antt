@@ -1,7 +1,7 @@
 -- The line of a well-formed file of arcs whose numbers are in range: `empty`, `box` with six numbers, or a refusal by 10 at printing. No
 -- other refusal is met. Assumes nothing.
-use Prim.Native.Nat as N
-use Prim.Native.Nat.{ℕ, suc}
+
+use Prim.Native.Nat.{ℕ, _*_}
 use native.Mathlib.Omega.{arith}
 use mathlib.Core.Path.{_≡_, refl, sym, ap, _∙_, subst}
 use mathlib.Core.Bool.{Bool, true, false, cond}
@@ -69,7 +69,7 @@ ten-thousandths : (x : Float) → Ten (thousandths x)
 unfolding thousandths
 ten-thousandths nan = refl
 ten-thousandths (inf s) = refl
-ten-thousandths (fin s m e) = by s (nearest-up (1000 N.* (m N.* up e)) (down e)) (leb (nearest-up (1000 N.* (m N.* up e)) (down e)) most)
+ten-thousandths (fin s m e) = by s (nearest-up (1000 * (m * up e)) (down e)) (leb (nearest-up (1000 * (m * up e)) (down e)) most)
   where
     by : (s : Bool) (size : ℕ) (b : Bool) → Ten (unless COUNT-TOO-LARGE b (due (signed s size)))
     by s size true = tt

@@ -5,7 +5,6 @@ use arcs::Arc;
 use checked::Number;
 use checked::TAU;
 use std::num::wrapping_add_u64;
-use std::num::wrapping_mul_u64;
 use vectors::Vec3;
 
 // 2^-51.
@@ -58,21 +57,23 @@ fn is_as_proved(from: Vec3, to: Vec3) -> bool {
     (0.0 < sweep) & (sweep <= TAU) & ((sweep == TAU) == is_lost)
 }
 
+// The next of a row of numbers below 2^31 that look drawn at random; their high bits serve, since the low ones repeat.
 fn drawn(seed: u64) -> u64 {
-    wrapping_add_u64(
-        wrapping_mul_u64(seed, 6364136223846793005),
-        1442695040888963407,
-    )
+    (seed % 0x8000_0000 * 1103515245 + 12345) % 0x8000_0000
 }
 
-// A whole number from 1 to 2000, by the high half of the seed.
+fn number(n: u64) -> f64 {
+    n as f64
+}
+
+// A whole number from 1 to 2000.
 fn length(seed: u64) -> f64 {
-    (seed / 0x1_0000_0000 % 2000 + 1) as f64
+    number(seed / 0x1_0000 % 2000 + 1)
 }
 
 // The number up to 16 bits below or above x.
 fn beside(x: f64, seed: u64) -> f64 {
-    let bits = wrapping_add_u64(checked::bits(x), seed / 0x1_0000_0000 % 33);
+    let bits = wrapping_add_u64(checked::bits(x), seed / 0x1_0000 % 33);
     checked::of_bits(wrapping_add_u64(bits, 0xffff_ffff_ffff_fff0))
 }
 
