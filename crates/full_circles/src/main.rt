@@ -62,13 +62,10 @@ fn drawn(seed: u64) -> u64 {
     (seed % 0x8000_0000 * 1103515245 + 12345) % 0x8000_0000
 }
 
-fn number(n: u64) -> f64 {
-    n as f64
-}
-
 // A whole number from 1 to 2000.
 fn length(seed: u64) -> f64 {
-    number(seed / 0x1_0000 % 2000 + 1)
+    let n = (seed / 0x1_0000 % 2000) as u32;
+    (n as f64) + 1.0
 }
 
 // The number up to 16 bits below or above x.
