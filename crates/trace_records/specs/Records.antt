@@ -8,8 +8,8 @@ use lib.Ieee.{Float, nan}
 use Rattle.checked.specs.Checked.{Due, due, refused}
 use Rattle.reaches.specs.declared.Jet as reaches
 use Rattle.waves.specs.declared.Wave.{Wave}
-use Rattle.waves.specs.declared.Jet.{Jet}
-use Rattle.waves.specs.declared.Span.{Span}
+use Rattle.wave_values.specs.declared.Jet.{Jet}
+use Rattle.wave_ranges.specs.declared.Span.{Span}
 use Rattle.meets.specs.declared.Turn.{Turn}
 use Rattle.meets.specs.declared.Turn.the-variants as turn
 use Rattle.meets.specs.declared.Meet.{Meet}
