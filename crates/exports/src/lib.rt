@@ -2,6 +2,7 @@
 // there is none, beside what is written. A refusal writes nothing.
 pub mod of_arcs;
 pub mod of_developments;
+pub mod of_frames;
 pub mod of_motions;
 pub mod of_numbers;
 pub mod of_traces;
