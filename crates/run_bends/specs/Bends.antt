@@ -14,7 +14,7 @@ use Rattle.meets.specs.declared.Turn.the-variants as turn
 use Rattle.profiles.specs.declared.ProfileArc.{ProfileArc}
 use Rattle.profiles.specs.Profiles.{turnC}
 use Rattle.waves.specs.declared.Wave.{Wave}
-use Rattle.waves.specs.Waves as waves
+use Rattle.wave_values.specs.Values as waves
 use Rattle.courses.specs.declared.Course.{Course}
 use Rattle.courses.specs.Courses.{rateC, angleC}
 use Rattle.runs.specs.declared.Way.{Way}
@@ -103,7 +103,7 @@ unfoldable pub waveC : Wave → Vec2 → Vec2 → Float → Float → Checked Ve
 waveC w from to n t = do
   du ← num (to .x) ⊖ num (from .x)
   u ← num (from .x) ⊕ num du ⊗ num t
-  e ← waves.bendC w u n
+  e ← waves.bendC (w .b) (w .c) u n
   y ← num e ⊗ num du ⊗ num du
   given (plane zero y)
 

@@ -154,7 +154,7 @@ fn wave_second(w: Wave, from: Vec2, to: Vec2, n: f64, t: f64) -> CheckedVec2
 {
     let du = to.x - from.x;
     let u = from.x + du * t;
-    let e = waves::formula::bend(w, u, n);
+    let e = wave_values::bend(w.b, w.c, u, n);
     let y = e.value * du * du;
     CheckedVec2 {
         refusal: note(earlier(note(note(0, du), u), e.refusal), y),

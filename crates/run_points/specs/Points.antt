@@ -7,7 +7,7 @@ use Rattle.vectors.specs.Vectors.{plane}
 use Rattle.profiles.specs.declared.ProfileArc.{ProfileArc}
 use Rattle.profiles.specs.Profiles.{turnC}
 use Rattle.waves.specs.declared.Wave.{Wave}
-use Rattle.waves.specs.Waves as waves
+use Rattle.wave_values.specs.Values as waves
 use Rattle.courses.specs.declared.Place.{Place}
 use Rattle.courses.specs.Courses as courses
 use Rattle.runs.specs.declared.Way.{Way}
@@ -58,7 +58,7 @@ unfoldable pub waveC : Wave → Vec2 → Vec2 → Float → Float → Checked Pl
 waveC w from to n t = do
   du ← num (to .x) ⊖ num (from .x)
   u ← num (from .x) ⊕ num du ⊗ num t
-  h ← waves.withSlopeC w u n
+  h ← waves.withSlopeC (w .a) (w .b) (w .c) u n
   dv ← num (h .slope) ⊗ num du
   given (record { p = plane u (h .v); d = plane du dv })
 

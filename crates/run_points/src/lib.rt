@@ -107,7 +107,7 @@ fn wave_at(w: Wave, from: Vec2, to: Vec2, n: f64, t: f64) -> CheckedPlace
 {
     let du = to.x - from.x;
     let u = from.x + du * t;
-    let h = waves::formula::with_slope(w, u, n);
+    let h = wave_values::with_slope(w.a, w.b, w.c, u, n);
     let dv = h.value.slope * du;
     CheckedPlace {
         refusal: note(earlier(note(note(0, du), u), h.refusal), dv),

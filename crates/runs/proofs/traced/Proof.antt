@@ -1,12 +1,5 @@
 use borrow.Author.Needs.{needs}
 use Rattle.runs.specs.Runs.{tracedC}
-use Rattle.checked.specs.Laws.{rules as checked-rules}
-use Rattle.vectors.specs.Laws.{rules as vectors-rules}
-use Rattle.directions.specs.Laws.{rules as directions-rules}
-use Rattle.reaches.specs.Laws.{rules as reaches-rules}
-use Rattle.angles.specs.Laws.{rules as angles-rules}
-use Rattle.courses.specs.Laws.{rules as courses-rules}
-use Rattle.waves.specs.Laws.{rules as waves-rules}
 use Rattle.runs.proofs.traced.Statement.{statement}
 use Rattle.runs.proofs.traced.Tie as tie
 
@@ -21,11 +14,11 @@ meet-way-requires c κs = search needs
 
 returns : tie.Need-returns
 unfolding tracedC
-returns c = (simp (c .before .t .given .1, checked-rules, vectors-rules, directions-rules, reaches-rules, angles-rules, courses-rules, waves-rules), simp (c .before .t .given .1))
+returns c = (simp (c .before .t .given .1), simp (c .before .t .given .1))
 
 returns-2 : tie.Need-returns-2
 unfolding tracedC
-returns-2 c = (simp (c .meet-way .ensures .0, c .meet-way .ensures .1, c .before .before .t2 .given .1, checked-rules, vectors-rules, directions-rules, reaches-rules, angles-rules, courses-rules, waves-rules), simp (c .meet-way .ensures .1, c .before .before .t2 .given .1))
+returns-2 c = (simp (c .meet-way .ensures .0, c .before .before .t2 .given .1), simp (c .meet-way .ensures .1, c .before .before .t2 .given .1))
 
 pub traced-spec : {M : Type 1} → statement M
 traced-spec =

@@ -1,12 +1,5 @@
 use borrow.Author.Needs.{needs}
 use Rattle.runs.specs.Runs.{wayC}
-use Rattle.checked.specs.Laws.{rules as checked-rules}
-use Rattle.vectors.specs.Laws.{rules as vectors-rules}
-use Rattle.directions.specs.Laws.{rules as directions-rules}
-use Rattle.reaches.specs.Laws.{rules as reaches-rules}
-use Rattle.angles.specs.Laws.{rules as angles-rules}
-use Rattle.courses.specs.Laws.{rules as courses-rules}
-use Rattle.waves.specs.Laws.{rules as waves-rules}
 use Rattle.runs.proofs.way_of.Statement.{statement}
 use Rattle.runs.proofs.way_of.Tie as tie
 
@@ -24,11 +17,11 @@ traced-requires c κs = search needs
 
 returns : tie.Need-returns
 unfolding wayC
-returns c = (simp (c .untraced .ensures, c .before .enum-told .given .1, checked-rules, vectors-rules, directions-rules, reaches-rules, angles-rules, courses-rules, waves-rules), simp (c .untraced .ensures, c .before .enum-told .given .1))
+returns c = (simp (c .untraced .ensures, c .before .enum-told .given .1), simp (c .untraced .ensures, c .before .enum-told .given .1))
 
 returns-2 : tie.Need-returns-2
 unfolding wayC
-returns-2 c = (simp (c .traced .ensures .0, c .traced .ensures .1, c .before .before .trace .given .1, checked-rules, vectors-rules, directions-rules, reaches-rules, angles-rules, courses-rules, waves-rules), simp (c .traced .ensures .1, c .before .before .trace .given .1))
+returns-2 c = (simp (c .traced .ensures .0, c .traced .ensures .1, c .before .before .trace .given .1), simp (c .traced .ensures .1, c .before .before .trace .given .1))
 
 pub way-of-spec : {M : Type 1} → statement M
 way-of-spec =

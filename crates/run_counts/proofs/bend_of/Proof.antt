@@ -1,0 +1,62 @@
+use Prim.Native.Nat.{_≤_, _-_}
+use mathlib.Core.Path.{_≡_}
+use native.Mathlib.Omega.{arith}
+use borrow.Author.Needs.{needs}
+use lib.Ieee.{ofBits}
+use Rattle.checked.specs.Numbers.{zero}
+use Rattle.loops.specs.Loops.{foldC}
+use Rattle.loops.specs.Laws.{Done, done-none, done-more}
+use Rattle.run_counts.specs.Counts.{sampleC, bendC}
+use Rattle.run_counts.proofs.bend_of.Statement.{statement}
+use Rattle.run_counts.proofs.bend_of.Tie as tie
+
+-- the greatest of k samples
+abbrev Inv-loop : tie.InvT-loop
+Inv-loop c a₀ r₀ k₀ a r k = (k ≤ 257) × Done (foldC k (sampleC c) zero) r a
+
+abbrev μ-loop : tie.MeasureT-loop
+μ-loop c a₀ r₀ k₀ a r k = 257 - k
+
+loop-holds : tie.Need-loop-holds Inv-loop μ-loop
+loop-holds c = (omega arith, done-none _ _)
+
+sample-requires : tie.Need-sample-requires Inv-loop μ-loop
+sample-requires c κs = search needs
+
+earlier-requires : tie.Need-earlier-requires Inv-loop μ-loop
+earlier-requires c κs = search needs
+
+add-k : tie.Need-add-k Inv-loop μ-loop
+add-k c = omega arith
+
+loop-less : tie.Need-loop-less Inv-loop μ-loop
+loop-less c = omega arith
+
+loop-again : tie.Need-loop-again Inv-loop μ-loop
+loop-again c =
+    let at = c .before .before .before .loop in
+    let less = c .before .before .loop-test .taken in
+    let d = done-more _ _ (at .k) (at .r) (at .a) (at .inv .1) in
+    (omega arith, simp (c .earlier .ensures, c .before .sample .ensures .0, c .before .sample .ensures .1) d)
+
+returns : tie.Need-returns Inv-loop μ-loop
+unfolding bendC
+returns c =
+    let at = c .before .loop in
+    let all : at .k ≡ 257 = omega arith in
+    let d = rw all at (at .inv .1) in
+    (d .refusal, d .value)
+
+pub bend-of-spec : {M : Type 1} → statement M
+bend-of-spec =
+    tie.close
+    (tie.spec
+    Inv-loop
+    μ-loop
+    loop-holds
+    sample-requires
+    earlier-requires
+    add-k
+    loop-less
+    loop-again
+    returns)
