@@ -34,7 +34,8 @@ chordsC radius chord = cond (lt chord radius) (quotientC radius chord) (given ze
 unfoldable pub clamped : Float → Float
 clamped x = cond (lt x fewest) fewest (cond (lt most x) most x)
 
--- the chords of a full turn: a whole number from 12 to 64, as an f64
+-- the chords of a full turn: a whole number from 12 to 64 (`per-turn-range` of crates/turns), as
+-- an f64
 unfoldable pub perTurnC : Float → Float → Checked Float
 perTurnC radius chord = do
   n ← chordsC radius chord
