@@ -1,5 +1,5 @@
--- The line of a well-formed file of arcs whose numbers are in range: `empty`, `box` with six numbers, or a refusal by 10 at printing. No
--- other refusal is met. Assumes nothing.
+-- The line of a well-formed file of arcs whose numbers are in range: `empty`, `box` with six
+-- numbers, or a refusal by 10 at printing. No other refusal is met. Assumes nothing.
 
 use Prim.Native.Nat.{ℕ, _*_}
 use native.Mathlib.Omega.{arith}

@@ -1,4 +1,5 @@
-// The arccosine of libm 0.2.1 by the size of its argument: specs/Arccosine.antt has each case operation by operation.
+// The arccosine of libm 0.2.1 by the size of its argument: specs/Arccosine.antt has each case
+// operation by operation.
 ghost use mathlib.Core.Path.{_≡_};
 ghost use Rattle.arccosine.specs.Arccosine as Arccosine;
 use checked::upper;

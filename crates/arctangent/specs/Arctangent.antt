@@ -1,5 +1,5 @@
--- The angle of a point by libm 0.2.1, operation by operation: atan2.rs, with its names for constants and variables, over the arctangent
--- (crate atan). Definitions only.
+-- The angle of a point by libm 0.2.1, operation by operation: atan2.rs, with its names for
+-- constants and variables, over the arctangent (crate atan). Definitions only.
 use Prim.Native.Nat.{ℕ, _+_, _%_, _*_, _^_}
 use mathlib.Core.Bool.{Bool, cond, _&&_, _||_}
 use lib.Dec.{ltb, eqb}
@@ -37,7 +37,8 @@ infiniteX m = choose m zero (neg zero) pi (neg pi)
 abbrev pub atInfiniteX : ℕ → ℕ → Float
 atInfiniteX m iy = if eqb iy 0x7ff00000 then bothInfinite m else infiniteX m
 
--- x is below 0, and y/x below 2^-64 in magnitude. The sums of words do not wrap, here and in `tooSteep`: a word is below 2^31.
+-- x is below 0, and y/x below 2^-64 in magnitude. The sums of words do not wrap, here and in
+-- `tooSteep`: a word is below 2^31.
 abbrev pub tooFlat : Float → Float → Bool
 tooFlat y x = eqb (sign x) 1 && ltb (high-word y + 64 * 2 ^ 20) (high-word x)
 
@@ -53,7 +54,8 @@ inQuadrant m z = choose m z (neg z) (pi -ᶠ (z -ᶠ PI-LO)) ((z -ᶠ PI-LO) -�
 abbrev pub tooSteep : ℕ → ℕ → Bool
 tooSteep iy ix = ltb (ix + 64 * 2 ^ 20) iy || eqb iy 0x7ff00000
 
--- the angle of the point (x, y), where neither is a NaN; m is twice the sign of x, and the sign of y
+-- the angle of the point (x, y), where neither is a NaN; m is twice the sign of x, and the sign of
+-- y
 unfoldable pub angle : Float → Float → Float
 angle y x =
     let ix = high-word x in

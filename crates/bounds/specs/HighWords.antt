@@ -1,4 +1,5 @@
--- What the high word of a pattern says of a number's magnitude: patterns without a sign are ordered as their numbers are. Assumes nothing.
+-- What the high word of a pattern says of a number's magnitude: patterns without a sign are ordered
+-- as their numbers are. Assumes nothing.
 use mathlib.Core.Path.{_≡_, refl, sym, ap, _∙_, subst}
 use mathlib.Core.Logic.{_≢_, _⊎_, inl, inr}
 use mathlib.Core.Bool.{Bool, true, false}

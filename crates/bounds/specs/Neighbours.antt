@@ -1,4 +1,5 @@
--- Between the numbers of two patterns that follow each other there is no number of the format. Assumes nothing.
+-- Between the numbers of two patterns that follow each other there is no number of the format.
+-- Assumes nothing.
 use mathlib.Core.Path.{_≡_, refl, subst}
 use mathlib.Core.Bool.{Bool, true, false}
 use Prim.Native.Nat.{ℕ, suc, _*_, _/_, _^_, _<_}

@@ -1,4 +1,5 @@
-// Sine and cosine of libm 0.2.1 at angles of at most 1,048,576 in magnitude: specs/Circle.antt has them operation by operation.
+// Sine and cosine of libm 0.2.1 at angles of at most 1,048,576 in magnitude: specs/Circle.antt has
+// them operation by operation.
 ghost use mathlib.Core.Path.{_≡_};
 ghost use lib.Dec.{T};
 ghost use Rattle.checked.specs.Checked.{first, nine, eight, within};
@@ -21,8 +22,9 @@ pub struct Sines {
     pub cos: f64,
 }
 
-// A sine and a cosine, with the refusal that their angle met; 0 is none. It stands between them so that the two are read one by one, as
-// they are stored: a pair read at once would wait until both have left for memory.
+// A sine and a cosine, with the refusal that their angle met; 0 is none. It stands between them so
+// that the two are read one by one, as they are stored: a pair read at once would wait until both
+// have left for memory.
 pub struct CheckedSines {
     pub sin: f64,
     pub refusal: u8,

@@ -1,6 +1,7 @@
-// Which arcs are full circles. First an arc from (3, 4, 0) about the z axis, to ends some bits of y ahead of it and behind it: their
-// sweeps, by bit pattern. Then a million arcs between drawn points, half of them a few bits apart: each is a full circle exactly where
-// its arctangent lies in [-2^-51, 0], as crates/turns proves.
+// Which arcs are full circles. First an arc from (3, 4, 0) about the z axis, to ends some bits of y
+// ahead of it and behind it: their sweeps, by bit pattern. Then a million arcs between drawn
+// points, half of them a few bits apart: each is a full circle exactly where its arctangent lies in
+// [-2^-51, 0], as crates/turns proves.
 use arcs::Arc;
 use checked::Number;
 use checked::TAU;
@@ -57,7 +58,8 @@ fn is_as_proved(from: Vec3, to: Vec3) -> bool {
     (0.0 < sweep) & (sweep <= TAU) & ((sweep == TAU) == is_lost)
 }
 
-// The next of a row of numbers below 2^31 that look drawn at random; their high bits serve, since the low ones repeat.
+// The next of a row of numbers below 2^31 that look drawn at random; their high bits serve, since
+// the low ones repeat.
 fn drawn(seed: u64) -> u64 {
     (seed % 0x8000_0000 * 1103515245 + 12345) % 0x8000_0000
 }

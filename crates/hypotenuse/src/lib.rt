@@ -1,4 +1,5 @@
-// The hypotenuse of libm 0.2.1, by the patterns of the two sides: specs/Hypotenuse.antt has it operation by operation.
+// The hypotenuse of libm 0.2.1, by the patterns of the two sides: specs/Hypotenuse.antt has it
+// operation by operation.
 ghost use mathlib.Core.Path.{_≡_};
 ghost use Rattle.hypotenuse.specs.Hypotenuse as Hypotenuse;
 use checked::of_bits;

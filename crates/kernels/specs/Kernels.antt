@@ -1,5 +1,5 @@
--- The kernels of sine and cosine of libm 0.2.1, operation by operation: k_sin.rs and k_cos.rs, with their names for constants and
--- variables. Definitions only.
+-- The kernels of sine and cosine of libm 0.2.1, operation by operation: k_sin.rs and k_cos.rs, with
+-- their names for constants and variables. Definitions only.
 use lib.Ieee.{Float}
 use Rattle.checked.specs.Numbers.{half, one, literal}
 use Rattle.words.specs.Words.{_+ᶠ_, _-ᶠ_, _*ᶠ_}

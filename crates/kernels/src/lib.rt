@@ -1,4 +1,5 @@
-// Sine and cosine near 0, as k_sin and k_cos of libm 0.2.1 have them: specs/Kernels.antt has them operation by operation.
+// Sine and cosine near 0, as k_sin and k_cos of libm 0.2.1 have them: specs/Kernels.antt has them
+// operation by operation.
 ghost use mathlib.Core.Path.{_≡_};
 ghost use Rattle.kernels.specs.Kernels as Kernels;
 

@@ -1,5 +1,5 @@
-// Runs the well-known values of data/values.txt: each result may be one step from the f64 nearest to the true value. A line whose result is
-// farther off is named.
+// Runs the well-known values of data/values.txt: each result may be one step from the f64 nearest
+// to the true value. A line whose result is farther off is named.
 use answer_lines::operation;
 use answer_lines::pattern;
 use bytes::scan::find;

@@ -1,4 +1,5 @@
--- The arctangent of a number is at most 3 in magnitude, and not below zero for a number with no minus sign. Assumes nothing.
+-- The arctangent of a number is at most 3 in magnitude, and not below zero for a number with no
+-- minus sign. Assumes nothing.
 use mathlib.Core.Path.{_≡_, refl, sym, ap, _∙_, subst}
 use mathlib.Core.Bool.{Bool, true, false, not, cond}
 use Prim.Native.Nat.{ℕ, _+_, _*_, _^_, _≤_, _<_}
@@ -88,7 +89,8 @@ series-upto b x B H X = subst (λ (v : Float). Upto (mul binary64 b half) v) (sy
 
 -- ---- from 7/16 up
 
--- where the new x is at most b in magnitude, c bounds b / 2 + low + b, and high - c and high + c lie in [0, 3]
+-- where the new x is at most b in magnitude, c bounds b / 2 + low + b, and high - c and high + c
+-- lie in [0, 3]
 fold-range : (b c : Float) (r : Reduced) → T (plain b) → T (le b half) → T (plain (mul binary64 b half)) → T (plain (r .low)) → T (plain (add binary64 (mul binary64 b half) (r .low))) → T (plain (r .high))
     → T (plain c) → T (le (add binary64 (add binary64 (mul binary64 b half) (r .low)) b) c) → T (le nought (sub binary64 (r .high) c)) → T (le (sub binary64 (r .high) (neg c)) three) → Upto b (r .x) → In nought three (folded r)
 fold-range b c r B H S L SL N C most lo hi X =

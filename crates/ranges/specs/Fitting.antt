@@ -1,4 +1,5 @@
--- The arctangent of a value of the format, and the angle of a point, are values of the format. Assumes nothing.
+-- The arctangent of a value of the format, and the angle of a point, are values of the format.
+-- Assumes nothing.
 use mathlib.Core.Bool.{Bool, cond, _||_}
 use Prim.Native.Nat.{ℕ, _+_, _*_, _%_}
 use lib.Dec.{T, leb, ltb, eqb}

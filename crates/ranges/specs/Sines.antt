@@ -1,4 +1,5 @@
--- The sine and the cosine of an angle that is due are finite: at most 2 ^ 366 in magnitude, which is far from sharp. Assumes nothing.
+-- The sine and the cosine of an angle that is due are finite: at most 2 ^ 366 in magnitude, which
+-- is far from sharp. Assumes nothing.
 use mathlib.Core.Bool.{Bool, true, false, cond}
 use Prim.Native.Nat.{ℕ, suc, _+_, _-_, _/_, _%_, _^_, _≤_}
 use native.Mathlib.Omega.{arith}

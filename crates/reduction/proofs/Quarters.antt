@@ -1,5 +1,6 @@
--- rem_pio2's count of quarter turns. For an x of magnitude at most 2 ^ 20, tmp = x * INV_PIO2 + 1.5 * 2 ^ 52 is a whole number w from 2 ^ 52 up and below 2 ^ 53: its pattern ends as w does.
--- f_n is w - 1.5 * 2 ^ 52, and so `f_n as i32 & 3` is w % 4. Assumes nothing.
+-- rem_pio2's count of quarter turns. For an x of magnitude at most 2 ^ 20, tmp = x * INV_PIO2 + 1.5
+-- * 2 ^ 52 is a whole number w from 2 ^ 52 up and below 2 ^ 53: its pattern ends as w does. f_n is
+-- w - 1.5 * 2 ^ 52, and so `f_n as i32 & 3` is w % 4. Assumes nothing.
 use mathlib.Core.Path.{_≡_, refl, sym, ap, _∙_, subst}
 use mathlib.Core.Bool.{Bool, true, false, not, _&&_, _||_, cond}
 use Prim.Native.Nat.{ℕ, suc, _+_, _-_, _*_, _%_, _^_, _≤_, _<_}

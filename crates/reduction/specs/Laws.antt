@@ -21,7 +21,8 @@ tmp-range x h =
     (upto-in (pow 20) (x *ᶠ INV-PIO2) (upto-wider (pow 20 *ᶠ INV-PIO2) (pow 20) (x *ᶠ INV-PIO2) tt (upto-mul binary64 (pow 20) INV-PIO2 tt tt x INV-PIO2 (within-pow x h) tt)))
     (tt, tt)
 
--- rem_pio2's case of large angles is for a high word of 0x413921fb and more, its sign apart: it is never due
+-- rem_pio2's case of large angles is for a high word of 0x413921fb and more, its sign apart: it is
+-- never due
 pub never-large : (x : Float) → T (fits binary64 x) → T (within x) → high-word x ≤ 0x41300000
 unfolding lt ofBits
 never-large x F h = word-most x 0x41300000 F (within-finite x h) tt (within-pow x h)

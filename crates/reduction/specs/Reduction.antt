@@ -1,7 +1,7 @@
--- rem_pio2.rs of libm 0.2.1, operation by operation, with its names for constants and variables: what is left of an angle when n
--- quarter turns are taken off, as y0 + y1. Definitions only.
--- It is due at angles of at most 1,048,576 in magnitude, where it never comes to its case of large angles (`never-large` of
--- specs/Laws.antt).
+-- rem_pio2.rs of libm 0.2.1, operation by operation, with its names for constants and variables:
+-- what is left of an angle when n quarter turns are taken off, as y0 + y1. Definitions only. It is
+-- due at angles of at most 1,048,576 in magnitude, where it never comes to its case of large angles
+-- (`never-large` of specs/Laws.antt).
 use Prim.Native.Nat.{ℕ, _-_, _/_, _%_, _^_}
 use lib.IntN.{ℤ, pos, negsuc}
 use lib.Dec.{leb, ltb, eqb}
@@ -68,7 +68,8 @@ thirdRound q f-n t =
     let r = t -ᶠ w in
     parted q r (f-n *ᶠ PIO2-3T -ᶠ ((t -ᶠ r) -ᶠ w))
 
--- the second round, and whether a third is due; ex - ey is 0 here where ex is the smaller, and then none is due either way
+-- the second round, and whether a third is due; ex - ey is 0 here where ex is the smaller, and then
+-- none is due either way
 unfoldable pub secondRound : ℕ → ℕ → Float → Float → Rest
 secondRound ex q f-n t =
     let w = f-n *ᶠ PIO2-2 in
@@ -125,7 +126,8 @@ fromSeven x ix =
 unfoldable pub toNine : Float → ℕ → Rest
 toNine x ix = if leb ix 0x4015fdbc then toSeven x ix else fromSeven x ix
 
--- what is left of x, which is above π/4 in magnitude; ix is below 0x413921fb, where libm's case of large angles begins
+-- what is left of x, which is above π/4 in magnitude; ix is below 0x413921fb, where libm's case of
+-- large angles begins
 unfoldable pub remPio2 : Float → Rest
 remPio2 x =
     let ix = high-word x in

@@ -1,5 +1,5 @@
-// An angle of at most 1,048,576 in magnitude, less whole quarter turns, as rem_pio2 of libm 0.2.1 has it: specs/Reduction.antt has it
-// operation by operation.
+// An angle of at most 1,048,576 in magnitude, less whole quarter turns, as rem_pio2 of libm 0.2.1
+// has it: specs/Reduction.antt has it operation by operation.
 ghost use mathlib.Core.Path.{_≡_};
 ghost use lib.Dec.{T};
 ghost use lib.IntN.{pos, negsuc};
@@ -25,7 +25,8 @@ const PIO2_3: f64 = 2.02226624871116645580e-21;
 
 const PIO2_3T: f64 = 8.47842766036889956997e-32;
 
-// What is left of an angle after whole quarter turns, in two parts, and the two lowest bits of their number.
+// What is left of an angle after whole quarter turns, in two parts, and the two lowest bits of
+// their number.
 pub struct Rest {
     pub quarter: u64,
     pub y0: f64,
@@ -64,7 +65,8 @@ fn second_round(ex: u64, quarter: u64, f_n: f64, t: f64) -> Rest
     }
 }
 
-// tmp is whole, and 1.5 times 2^52 more than the number of quarter turns: its pattern ends as that number does.
+// tmp is whole, and 1.5 times 2^52 more than the number of quarter turns: its pattern ends as that
+// number does.
 fn medium(x: f64, ix: u64) -> Rest
     requires { ⌜ T (within x) ⌝ }
     ensures { λ a. ⌜ a ≡ Reduction.medium x ix ⌝ }

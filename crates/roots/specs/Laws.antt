@@ -1,4 +1,5 @@
--- What hypot gives beside an infinity, acos at 1 (ISO C, Annex F), and what a finite result tells of the arguments. Assumes nothing.
+-- What hypot gives beside an infinity, acos at 1 (ISO C, Annex F), and what a finite result tells
+-- of the arguments. Assumes nothing.
 use mathlib.Core.Path.{_≡_, refl, sym, ap, _∙_, subst}
 use mathlib.Core.Logic.{inl, inr}
 use mathlib.Core.Bool.{Bool, true, false, _||_}

@@ -13,7 +13,8 @@ use words::is_nan;
 use words::sign;
 use words::size;
 
-// The angle whose cosine is x; a NaN where there is none. A NaN goes first here: then no pattern read below has to be tried for one.
+// The angle whose cosine is x; a NaN where there is none. A NaN goes first here: then no pattern
+// read below has to be tried for one.
 pub fn acos(x: f64) -> f64
     ensures { λ r. ⌜ r ≡ Roots.acos x ⌝ }
 {

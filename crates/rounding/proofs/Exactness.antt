@@ -1,5 +1,7 @@
--- A check of the definitions in `specs/Whole.antt`, for either format: `round f s k 1` there rounds nothing. Of a value that fits, `ceil` and `round-away` are the whole number k itself, with x's sign.
--- And of `specs/Root.antt`: `root n` is the r with r * r ≤ n < (r + 1) * (r + 1). Assumes nothing.
+-- A check of the definitions in `specs/Whole.antt`, for either format: `round f s k 1` there rounds
+-- nothing. Of a value that fits, `ceil` and `round-away` are the whole number k itself, with x's
+-- sign. And of `specs/Root.antt`: `root n` is the r with r * r ≤ n < (r + 1) * (r + 1). Assumes
+-- nothing.
 use mathlib.Core.Path.{_≡_, refl, sym, ap, _∙_, subst}
 use mathlib.Core.Bool.{Bool, true, false, cond}
 use Prim.Native.Nat.{ℕ, suc, _+_, _-_, _*_, _/_, _^_, _≤_, _<_}

@@ -1,5 +1,6 @@
--- What `nearest_whole` computes. From 2 ^ 52 to 2 ^ 53 the values of an f64 are the whole numbers, so x + 2 ^ 52 is rounded to one that is at most a half away (`whole-sum`),
--- and taking 2 ^ 52 away again rounds nothing (`near-small`). Assumes nothing.
+-- What `nearest_whole` computes. From 2 ^ 52 to 2 ^ 53 the values of an f64 are the whole numbers,
+-- so x + 2 ^ 52 is rounded to one that is at most a half away (`whole-sum`), and taking 2 ^ 52 away
+-- again rounds nothing (`near-small`). Assumes nothing.
 use mathlib.Core.Path.{_≡_, refl, sym, ap, _∙_, subst}
 use mathlib.Core.Bool.{Bool, true, false}
 use Prim.Native.Nat.{ℕ, zero, suc, _+_, _-_, _*_, _/_, _%_, _^_, _≤_, _<_, compare, Ordering, Ordering·lt, Ordering·eq, Ordering·gt}

@@ -1,5 +1,7 @@
--- A check of the definition in `specs/Root.antt`: of all the values of an f64 none is nearer to the root of x than `sqrt` of x.
--- With R for the result and Y for any other value, both in units of 2 ^ -1074, the root is on R's side of the middle (R + Y) / 2, which is said with both sides squared. Assumes nothing.
+-- A check of the definition in `specs/Root.antt`: of all the values of an f64 none is nearer to the
+-- root of x than `sqrt` of x. With R for the result and Y for any other value, both in units of 2 ^
+-- -1074, the root is on R's side of the middle (R + Y) / 2, which is said with both sides squared.
+-- Assumes nothing.
 use mathlib.Core.Path.{_≡_, refl, sym, ap, _∙_, subst}
 use mathlib.Core.Logic.{_⊎_, inl, inr}
 use mathlib.Core.Bool.{Bool, true, false, not, true≢false}

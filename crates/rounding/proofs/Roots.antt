@@ -1,5 +1,6 @@
--- Square roots of whole numbers, and what `round-root` gives: there is one whole number nearest to a root;
--- and where num / den, in squares of the format's unit, is n * 4 ^ h, with a root of n that has prec digits, `round-root` is that whole number times 2 ^ h units. Assumes nothing.
+-- Square roots of whole numbers, and what `round-root` gives: there is one whole number nearest to
+-- a root; and where num / den, in squares of the format's unit, is n * 4 ^ h, with a root of n that
+-- has prec digits, `round-root` is that whole number times 2 ^ h units. Assumes nothing.
 use mathlib.Core.Path.{_≡_, refl, sym, ap, _∙_, subst}
 use mathlib.Core.Bool.{false, not}
 use Prim.Native.Nat.{ℕ, zero, suc, _+_, _-_, _*_, _/_, _%_, _^_, _≤_, _<_, zero-le, compare, Ordering, Ordering·lt, Ordering·eq, Ordering·gt}

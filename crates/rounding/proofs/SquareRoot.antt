@@ -1,5 +1,7 @@
--- What the proof of `sqrt` cites. An x above 0 and finite is m * 2 ^ e / 2 ^ 1126 for the m of 53 digits and the e that the code has (`normal`, `subnormal`).
--- Then the root of x, in units of 2 ^ -1074, is the root of n * 4 ^ h, with n = m * 2 ^ (52 + e % 2) and h = e / 2 + 485, and the pattern that `root_bits` returns is its (`finish`). Assumes nothing.
+-- What the proof of `sqrt` cites. An x above 0 and finite is m * 2 ^ e / 2 ^ 1126 for the m of 53
+-- digits and the e that the code has (`normal`, `subnormal`). Then the root of x, in units of 2 ^
+-- -1074, is the root of n * 4 ^ h, with n = m * 2 ^ (52 + e % 2) and h = e / 2 + 485, and the
+-- pattern that `root_bits` returns is its (`finish`). Assumes nothing.
 use mathlib.Core.Path.{_≡_, refl, sym, ap, _∙_, subst}
 use mathlib.Core.Logic.{_≢_, _⊎_, inl, inr}
 use mathlib.Core.Bool.{Bool, true, false, not, true≢false}

@@ -1,5 +1,6 @@
--- What the proofs of `ceil` and `round` cite, of an x that is above 0 and below 2 ^ 52, of one from 2 ^ 52 up, and of a zero or a NaN.
--- With n / d for the size of x, the code has a whole number k that is at most a half away, and compares x with k, or with k + 1 / 2. Assumes nothing.
+-- What the proofs of `ceil` and `round` cite, of an x that is above 0 and below 2 ^ 52, of one from
+-- 2 ^ 52 up, and of a zero or a NaN. With n / d for the size of x, the code has a whole number k
+-- that is at most a half away, and compares x with k, or with k + 1 / 2. Assumes nothing.
 use mathlib.Core.Path.{_≡_, refl, sym, ap, _∙_, subst}
 use mathlib.Core.Logic.{_⊎_, inl, inr}
 use mathlib.Core.Bool.{Bool, true, false, not, _&&_, cond, true≢false, false≢true}

@@ -1,4 +1,5 @@
--- Root, ceiling and rounding to a whole number, over computations, as the operators of `checked` are.
+-- Root, ceiling and rounding to a whole number, over computations, as the operators of `checked`
+-- are.
 use lib.Ieee.{Float, binary64}
 use Rattle.checked.specs.Checked.{Checked, first, _>>=_, finite}
 use Rattle.rounding.specs.Whole.{ceil, round-away}

@@ -1,4 +1,5 @@
--- What a finite result tells of its argument, so that code which notes the result need not note the argument too. Rules as in `checked`.
+-- What a finite result tells of its argument, so that code which notes the result need not note the
+-- argument too. Rules as in `checked`.
 use mathlib.Core.Path.{_≡_}
 use mathlib.Core.Bool.{Bool, true, false, _||_}
 use Prim.Native.Nat.{zero, suc}

@@ -1,5 +1,7 @@
--- Laws of values and bit patterns, for a general format and exponent: two values that fit and equal one fraction are the same (`value-unique`); q * 2 ^ k units, with q of prec digits
--- or the next power of two, has the pattern k * hid + q (`pattern-value`, `units-pattern`); and what the fields of a value above 0 say (`read-low`, `read-mid`, `read-top`). Assumes nothing.
+-- Laws of values and bit patterns, for a general format and exponent: two values that fit and equal
+-- one fraction are the same (`value-unique`); q * 2 ^ k units, with q of prec digits or the next
+-- power of two, has the pattern k * hid + q (`pattern-value`, `units-pattern`); and what the fields
+-- of a value above 0 say (`read-low`, `read-mid`, `read-top`). Assumes nothing.
 use mathlib.Core.Path.{_≡_, refl, sym, ap, _∙_, subst}
 use mathlib.Core.Logic.{_≢_, _⊎_, inl, inr}
 use mathlib.Core.Bool.{Bool, true, false, not, _&&_, cond, true≢false}
@@ -136,7 +138,8 @@ twice-hid f = go (prec f) (two-le-pos (prec f) (two f))
         back : (k : ℕ) → k ≡ suc k - 1
         back k = omega arith
 
--- q * 2 ^ k units, where q has prec digits or is the next power of two: the leading digit adds one to the exponent's field, and a carry one more
+-- q * 2 ^ k units, where q has prec digits or is the next power of two: the leading digit adds one
+-- to the exponent's field, and a carry one more
 pub pattern-value : (f : Format) (s : Bool) (q k : ℕ) → hid f ≤ q → q ≤ 2 ^ prec f → suc (suc k) < ones f → HasValue (ofBits f (cond s (top f) 0 + (k * hid f + q))) s (q * 2 ^ k) (2 ^ low f)
 pattern-value f s q k lo hi K = go (eq-or-lt-of-le hi)
   where

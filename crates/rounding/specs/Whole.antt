@@ -1,6 +1,7 @@
--- IEEE 754's roundToIntegralTowardPositive and roundToIntegralTiesToAway, defined by division of whole numbers. Definitions only.
--- A finite value has the size n / d, where n = m * up e and d = down e. The result keeps the sign of its argument, a zero too.
--- `round f s k 1` is the whole number k with the sign s; `proofs/Exactness.antt` shows that it never rounds here.
+-- IEEE 754's roundToIntegralTowardPositive and roundToIntegralTiesToAway, defined by division of
+-- whole numbers. Definitions only. A finite value has the size n / d, where n = m * up e and d =
+-- down e. The result keeps the sign of its argument, a zero too. `round f s k 1` is the whole
+-- number k with the sign s; `proofs/Exactness.antt` shows that it never rounds here.
 use Prim.Native.Nat.{ℕ, _+_, _-_, _*_, _/_, _≤_}
 use mathlib.Core.Bool.{Bool, cond}
 use lib.Ieee.{Float, nan, inf, fin, Format, up, down, round}

@@ -11,8 +11,8 @@ ghost use Rattle.rounding.specs.Root as Root;
 ghost use Rattle.whole_roots.specs.NearRoot.{NearRoot};
 use whole_roots::nearest_root;
 
-// A whole number at most a half away from a. From 2^52 to 2^53 the f64 are the whole numbers, so the
-// sum is rounded to one of them, and the difference is exact.
+// A whole number at most a half away from a. From 2^52 to 2^53 the f64 are the whole numbers, so
+// the sum is rounded to one of them, and the difference is exact.
 fn nearest_whole(a: f64) -> f64
     requires { ⌜ T (lt (fin false 0 (pos 0)) a) ⌝ ∗ ⌜ T (lt a (fin false 1 (pos 52))) ⌝ }
     ensures { λ r. ⌜ ((k : ℕ) × (r ≡ ofInt binary64 (pos k)) × Whole.Near a k) ⌝ }
@@ -20,8 +20,8 @@ fn nearest_whole(a: f64) -> f64
     a + 4503599627370496.0 - 4503599627370496.0
 }
 
-// The least whole number that is not below x. From 2^52 on an f64 has no fraction. Below zero the size
-// is cut instead, and the sign is put back last, so that it stays on a zero.
+// The least whole number that is not below x. From 2^52 on an f64 has no fraction. Below zero the
+// size is cut instead, and the sign is put back last, so that it stays on a zero.
 pub fn ceil(x: f64) -> f64
     ensures { λ r. ⌜ r ≡ Whole.ceil binary64 x ⌝ }
 {
@@ -44,8 +44,8 @@ pub fn ceil(x: f64) -> f64
     }
 }
 
-// The whole number nearest to a, halves up. The test takes y + 0.5, which is exact, and not a + 0.5,
-// which would take the f64 next below a half to 1.
+// The whole number nearest to a, halves up. The test takes y + 0.5, which is exact, and not a +
+// 0.5, which would take the f64 next below a half to 1.
 fn nearest_up(a: f64) -> f64
     requires { ⌜ T (lt (fin false 0 (pos 0)) a) ⌝ ∗ ⌜ T (lt a (fin false 1 (pos 52))) ⌝ }
     ensures { λ r. ⌜ r ≡ Whole.«round-away» binary64 a ⌝ }
@@ -84,7 +84,8 @@ fn root_bits(m: u64, e: u64) -> u64
     (e / 2 + 485) * 4503599627370496 + nearest_root(n)
 }
 
-// The root of x, rounded to the nearest f64. A zero is its own root, and a number below zero has none.
+// The root of x, rounded to the nearest f64. A zero is its own root, and a number below zero has
+// none.
 pub fn sqrt(x: f64) -> f64
     ensures { λ r. ⌜ r ≡ Root.sqrt binary64 x ⌝ }
 {

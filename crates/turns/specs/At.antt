@@ -1,4 +1,5 @@
--- A point of an arc is refused only where nothing is left of its start across the axis: for every arc, start and angle whose numbers pass the test of what is handed in. Assumes nothing.
+-- A point of an arc is refused only where nothing is left of its start across the axis: for every
+-- arc, start and angle whose numbers pass the test of what is handed in. Assumes nothing.
 use mathlib.Core.Path.{_≡_, refl, sym, ap, _∙_, subst}
 use mathlib.Core.Bool.{Bool, true, false, cond, _&&_}
 use Prim.Native.Nat.{ℕ}

@@ -1,6 +1,7 @@
--- How to tell a full circle. A turn counterclockwise is 2π exactly where the arctangent that it comes from lies in [-2^-51, 0], and one
--- clockwise is -2π exactly where it lies in [0, 2^-51]: such an end lies behind the start by at most 2^-51, about 4.4 / 10^16, and
--- beside 2π that is lost in rounding. Any other end is told from the start. Assumes nothing.
+-- How to tell a full circle. A turn counterclockwise is 2π exactly where the arctangent that it
+-- comes from lies in [-2^-51, 0], and one clockwise is -2π exactly where it lies in [0, 2^-51]:
+-- such an end lies behind the start by at most 2^-51, about 4.4 / 10^16, and beside 2π that is lost
+-- in rounding. Any other end is told from the start. Assumes nothing.
 use mathlib.Core.Path.{_≡_, refl, sym, _∙_, subst}
 use mathlib.Core.Bool.{Bool, true, false, cond, _&&_}
 use native.Mathlib.Omega.{arith}
@@ -118,7 +119,8 @@ back-full t a F = by (le zero t) refl (le t lost) refl
 abbrev pub sweepAngle : Arc → Vec3 → Vec3 → Float
 sweepAngle arc from to = let u = minusC from (arc .center) .value in atan2 (rise (arc .center) (arc .axis) u to) (run (arc .center) u to)
 
--- a sweep is a full circle exactly where its end lies behind its start by at most 2^-51, or on its direction
+-- a sweep is a full circle exactly where its end lies behind its start by at most 2^-51, or on its
+-- direction
 pub sweep-full : (arc : Arc) (from to : Vec3) → T (endsWithin (arc .center) (arc .axis) (arc .radius) from to) → eq (sweepC (arc .center) (arc .axis) from to .value) tau ≡ isLostBehind (sweepAngle arc from to)
 unfolding sweepC sweepFromC
 sweep-full arc from to h =
@@ -132,7 +134,8 @@ sweep-full arc from to h =
 abbrev pub turnAngle : ProfileArc → Vec2 → Vec2 → Float
 turnAngle arc a b = betweenC (apartC (arc .center) a .value) (apartC (arc .center) b .value) .value
 
--- a turn is a full circle, counterclockwise or clockwise, exactly where its end is that near behind its start in the turn's sense
+-- a turn is a full circle, counterclockwise or clockwise, exactly where its end is that near behind
+-- its start in the turn's sense
 pub turn-full : (arc : ProfileArc) (a b : Vec2) → T (within2 (arc .center)) → T (within2 a) → T (within2 b)
     → eq (turnC arc a b .value) (by-sense (arc .ccw)) ≡ cond (arc .ccw) (isLostBehind (turnAngle arc a b)) (isLostAhead (turnAngle arc a b))
 unfolding turnC

@@ -1,5 +1,6 @@
--- `Arc::inner_points`: an arc is cut into 64 chords at most, so 63 points are due at most and a row of 189 numbers suffices; the count
--- is never refused by 10, an angle never by 8, and 9 is met exactly where `Arc::at` meets it. Assumes nothing.
+-- `Arc::inner_points`: an arc is cut into 64 chords at most, so 63 points are due at most and a row
+-- of 189 numbers suffices; the count is never refused by 10, an angle never by 8, and 9 is met
+-- exactly where `Arc::at` meets it. Assumes nothing.
 use mathlib.Core.Path.{_≡_, refl, sym, ap, _∙_, subst}
 use mathlib.Core.Logic.{_⊎_, inl, inr}
 use mathlib.Core.Bool.{Bool, true, false, not, cond, _&&_, _||_}
@@ -245,8 +246,9 @@ pointsOf arc from to chord = cutC (arc .center) (arc .axis) (arc .radius) from t
 abbrev pub rimPoints : Arc → Vec3 → Vec3 → Float → List Vec3
 rimPoints arc from to chord = upTo (rimmed (arc .center) (arc .axis) (arc .radius) from (cutC (arc .center) (arc .axis) (arc .radius) from to chord .value)) (pointsOf arc from to chord) .value
 
--- `Arc::inner_points`, for all arguments: once 1 and 5 are passed, a row that is too short is refused by 6; then 9 is met exactly where
--- there is a point due and the start lies on the axis, as rounded; any other call gives the points
+-- `Arc::inner_points`, for all arguments: once 1 and 5 are passed, a row that is too short is
+-- refused by 6; then 9 is met exactly where there is a point due and the start lies on the axis, as
+-- rounded; any other call gives the points
 pub inner-answer : (arc : Arc) (from to : Vec3) (chord : Float) (room : ℕ)
     → innerPointsDue arc from to chord room
     ≡ unless OUT-OF-RANGE (chordWithin (arc .center) (arc .axis) (arc .radius) from to chord)

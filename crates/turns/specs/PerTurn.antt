@@ -1,5 +1,5 @@
--- `per_turn` lies in 12 to 64 and is never refused by 9: a chord that is not below 0 and below the radius makes a cosine in [0, 1].
--- Assumes nothing.
+-- `per_turn` lies in 12 to 64 and is never refused by 9: a chord that is not below 0 and below the
+-- radius makes a cosine in [0, 1]. Assumes nothing.
 use mathlib.Core.Path.{_≡_, refl, sym, ap, _∙_, subst}
 use mathlib.Core.Bool.{Bool, true, false, not, cond, _&&_}
 use Prim.Native.Nat as N
@@ -149,7 +149,8 @@ module _ (radius chord : Float) (R : T (within radius)) (C : T (within chord)) (
   unfolding perTurnC
   per-turn-range = clamped-in (ceil binary64 (chordsC radius chord .value)) (ceil-number (chordsC radius chord .value) chords-number)
 
--- `per_turn`, for all arguments: a number out of range and a chord below 0 are refused; any other call gives a number from 12 to 64
+-- `per_turn`, for all arguments: a number out of range and a chord below 0 are refused; any other
+-- call gives a number from 12 to 64
 pub per-turn-answer : (radius chord : Float) → perTurnDue radius chord ≡ unless OUT-OF-RANGE (within radius && within chord) (unless BAD-TOLERANCE (not (lt chord zero)) (due (perTurnC radius chord .value)))
 unfolding perTurnDue
 per-turn-answer radius chord = by (within radius) (within chord) (not (lt chord zero)) (per-turn-accepted radius chord)

@@ -1,4 +1,6 @@
--- A box call whose numbers pass the test of what is handed in meets no number that is not finite: for every arc and two ends, no refusal is met on the way to the points that widen the box. Assumes nothing.
+-- A box call whose numbers pass the test of what is handed in meets no number that is not finite:
+-- for every arc and two ends, no refusal is met on the way to the points that widen the box.
+-- Assumes nothing.
 use mathlib.Core.Path.{_≡_, refl, ap, _∙_}
 use mathlib.Core.Bool.{Bool, true, false, cond}
 use mathlib.Core.List.{[]}
@@ -127,7 +129,8 @@ module _ (center axis : Vec3) (radius : Float) (from to : Vec3) (H : Handed cent
 pub points-accepted : (center axis : Vec3) (radius : Float) (from to : Vec3) → T (endsWithin center axis radius from to) → pointsC center axis radius from to .refusal ≡ 0
 points-accepted center axis radius from to h = accepted center axis radius from to (handed-in center axis radius from to h)
 
--- `Arc::extend_bounds`, for all arguments: numbers out of range are refused, and a box with a NaN; any other call widens the box
+-- `Arc::extend_bounds`, for all arguments: numbers out of range are refused, and a box with a NaN;
+-- any other call widens the box
 pub extend-answer : (arc : Arc) (from to : Vec3) (b : Bounds)
     → extendDue arc from to b ≡ unless OUT-OF-RANGE (endsWithin (arc .center) (arc .axis) (arc .radius) from to) (unless BAD-BOX-OR-SUMS (free b) (due (widenedBy b (points arc from to .value))))
 unfolding extendDue boxCall

@@ -186,7 +186,8 @@ sweep-whole arc p = go (within3 (arc .center)) (within3 (arc .axis)) (within (ar
     go true false r q h = refl
     go false a r q h = refl
 
--- Equal is not the same: at the centre (0, 0) the point (0, 0) and the equal point (-0, -0) are half a turn apart.
+-- Equal is not the same: at the centre (0, 0) the point (0, 0) and the equal point (-0, -0) are
+-- half a turn apart.
 abbrev zeros : Bool → Vec2
 zeros s = record { x = noughtOf s; y = noughtOf s }
 

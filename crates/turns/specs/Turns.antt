@@ -1,4 +1,6 @@
--- How far arcs turn: a turn counterclockwise is above 0 and at most 2π, one clockwise is below 0 and at least −2π, 2π as rounded. No number that passes the test of what is handed in is refused. Assumes nothing.
+-- How far arcs turn: a turn counterclockwise is above 0 and at most 2π, one clockwise is below 0
+-- and at least −2π, 2π as rounded. No number that passes the test of what is handed in is refused.
+-- Assumes nothing.
 use mathlib.Core.Path.{_≡_, refl, sym, _∙_, subst}
 use mathlib.Core.Bool.{Bool, true, false, not, cond, _&&_}
 use Prim.Native.Nat.{ℕ, suc, _+_, _≤_}

@@ -1,5 +1,5 @@
--- What the proofs of the three functions cite: bounds of squares that keep each step within 64 bits, and the next digits of a root.
--- Assumes nothing.
+-- What the proofs of the three functions cite: bounds of squares that keep each step within 64
+-- bits, and the next digits of a root. Assumes nothing.
 use mathlib.Core.Path.{_≡_, refl, sym, ap, _∙_}
 use Prim.Native.Nat.{ℕ, zero, suc, _+_, _-_, _*_, _/_, _%_, _^_, _≤_, _<_}
 use native.Mathlib.Nat.{lt-of-le-of-lt, mul-comm, mul-assoc, mul-left-comm, mul-add, add-mul, mul-le-mul-right, zero-lt-suc, div-le-of-le-mul, div-add-mod', mod-lt}

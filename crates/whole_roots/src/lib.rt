@@ -1,9 +1,10 @@
-// The whole number nearest to a root, by arithmetic on 64 bits: `rounding` takes the digits of a square root from it.
+// The whole number nearest to a root, by arithmetic on 64 bits: `rounding` takes the digits of a
+// square root from it.
 ghost use Prim.Native.Nat.{ℕ, _+_, _*_, _^_, _≤_, _<_};
 ghost use Rattle.whole_roots.specs.NearRoot.{NearRoot};
 
-// About the root of n, by a polynomial and two of Newton's steps. Only the time that `whole_root` takes
-// depends on how near it is.
+// About the root of n, by a polynomial and two of Newton's steps. Only the time that `whole_root`
+// takes depends on how near it is.
 fn guess(n: u64) -> u64
     requires { ⌜ n < 2 ^ 54 ⌝ }
     ensures { λ r. ⌜ r < 2 ^ 27 ⌝ }
@@ -31,8 +32,8 @@ fn whole_root(n: u64) -> u64
     s
 }
 
-// The whole number nearest to the root of n * 2^52, for an n from 2^52 up and below 2^54.
-// With s the whole part of n's root, n = s * s + r. The next digits are q = r * 2^26 / (2 * s), with u
+// The whole number nearest to the root of n * 2^52, for an n from 2^52 up and below 2^54. With s
+// the whole part of n's root, n = s * s + r. The next digits are q = r * 2^26 / (2 * s), with u
 // left over: n * 2^52 = t * t + u * 2^26 - q * q for t = s * 2^26 + q.
 pub fn nearest_root(n: u64) -> u64
     requires { ⌜ (2 ^ 52 ≤ n) × (n < 2 ^ 54) ⌝ }

@@ -1,4 +1,5 @@
--- The sign of a number above or below 0, and which patterns have the zeros and the finite numbers. Assumes nothing.
+-- The sign of a number above or below 0, and which patterns have the zeros and the finite numbers.
+-- Assumes nothing.
 use mathlib.Core.Path.{_≡_, refl, sym, ap, _∙_, subst}
 use mathlib.Core.Bool.{Bool, true, false, cond}
 use Prim.Native.Nat.{ℕ, _+_, _-_, _*_, _/_, _%_, _^_, _<_}

@@ -1,4 +1,5 @@
--- The operators on f64, each rounded once, and what libm's functions read of a number's bit pattern besides its high word. Definitions only.
+-- The operators on f64, each rounded once, and what libm's functions read of a number's bit pattern
+-- besides its high word. Definitions only.
 use Prim.Native.Nat.{ℕ, _/_, _%_, _^_}
 use mathlib.Core.Bool.{Bool, true, false, cond}
 use lib.Dec.{eqb}

@@ -47,7 +47,8 @@ pub fn signed(s: u64, z: f64) -> f64
     if s == 0 { z } else { -z }
 }
 
-// a, b, c or d by the number m. By halves, so that the compiler makes no table of jumps, which a processor often guesses wrong.
+// a, b, c or d by the number m. By halves, so that the compiler makes no table of jumps, which a
+// processor often guesses wrong.
 pub fn choose(m: u64, a: f64, b: f64, c: f64, d: f64) -> f64
     ensures { λ r. ⌜ r ≡ W.choose m a b c d ⌝ }
 {

@@ -1,4 +1,5 @@
--- `nearest_up` meets its contract. `proofs/Wholes.antt` says what each arm returns. Assumes nothing.
+-- `nearest_up` meets its contract. `proofs/Wholes.antt` says what each arm returns. Assumes
+-- nothing.
 use mathlib.Core.Path.{_≡_, sym, subst}
 use mathlib.Core.Bool.{Bool, not}
 use lib.Dec.{T}

@@ -5,7 +5,8 @@ use Rattle.whole_roots.proofs.Digits.{sq-27, Bounds, bounds, near-up, n
 use Rattle.whole_roots.proofs.nearest_root.Statement.{statement}
 use Rattle.whole_roots.proofs.nearest_root.Tie as tie
 
--- the bounds of what the body computes, with n and s for the argument and what `whole_root` returned
+-- the bounds of what the body computes, with n and s for the argument and what `whole_root`
+-- returned
 module _ (c : tie.After-whole-root) where
   abbrev n : ℕ
   n = c .before .args .n

@@ -1,5 +1,6 @@
--- `whole_root` meets its contract. The first loop brings s down to where its square is at most n, and the second up to where the next one's is not.
--- Both keep s below 2 ^ 27, so that its square fits. The measures are s, and what s lacks of 2 ^ 27. Assumes nothing.
+-- `whole_root` meets its contract. The first loop brings s down to where its square is at most n,
+-- and the second up to where the next one's is not. Both keep s below 2 ^ 27, so that its square
+-- fits. The measures are s, and what s lacks of 2 ^ 27. Assumes nothing.
 use Prim.Native.Nat.{ℕ, _+_, _-_, _*_, _^_, _≤_, _<_}
 use native.Mathlib.Omega.{arith}
 use Rattle.whole_roots.proofs.Digits.{sq-27, sq-up, sq-pos}
