@@ -3,118 +3,84 @@
 use answer_lines::count;
 use answer_lines::pattern;
 use answer_lines::refusal;
-use arcs::ArcAnswer;
-use boxes::Widened;
-use checked::Number;
-use circle::CheckedSines;
-use motions::Motion;
-use motions::Rigid;
-use std::num::wrapping_add_u8;
 use std::num::wrapping_add_usize;
-use vectors::Index;
-use vectors::Vec3;
-use vectors::Vector;
 
-// The line has this refusal, 0 for none, and so many patterns.
-fn is_due(line: &[u8], number: u8, patterns: usize) -> bool {
-    (refusal(line) == number as u64) & (count(line) == patterns)
+// The line has this answer, 0 for a result, and so many patterns. None stands there as 99.
+fn is_due(line: &[u8], answer: u32, patterns: usize) -> bool {
+    let number = if answer == records::NONE {
+        99
+    } else {
+        answer as u64
+    };
+    (refusal(line) == number) & (count(line) == patterns)
 }
 
-fn is_refused(line: &[u8], number: u8, inputs: u8) -> bool {
-    (number != 0) & is_due(line, number, inputs as usize)
-}
-
-fn is_pattern(line: &[u8], k: usize, x: f64) -> bool {
-    pattern(line, k) == checked::bits(x)
-}
-
-// The three patterns from k on.
-fn is_vec3(line: &[u8], k: u8, v: Vec3) -> bool {
+// The patterns from k on are those of the numbers.
+fn are_alike(line: &[u8], k: u8, out: &[f64]) -> bool {
     let first = k as usize;
-    is_pattern(line, first, v.x)
-        & is_pattern(line, first + 1, v.y)
-        & is_pattern(line, first + 2, v.z)
+    let mut is_same = true;
+    let mut i = 0;
+    while i < out.len() {
+        is_same = is_same & (pattern(line, wrapping_add_usize(first, i)) == checked::bits(out[i]));
+        i += 1;
+    }
+    is_same
+}
+
+fn is_answer(line: &[u8], inputs: u8, answer: u32, out: &[f64]) -> bool {
+    let first = inputs as usize;
+    if answer == 0 {
+        is_due(line, 0, wrapping_add_usize(first, out.len())) & are_alike(line, inputs, out)
+    } else {
+        is_due(line, answer, first)
+    }
 }
 
 // A number that is never refused.
 pub(crate) fn is_value(line: &[u8], inputs: u8, x: f64) -> bool {
+    is_1(line, inputs, 0, &[x])
+}
+
+pub(crate) fn is_count(line: &[u8], inputs: u8, answer: u32, out: &[u64; 1]) -> bool {
     let first = inputs as usize;
-    is_due(line, 0, first + 1) & is_pattern(line, first, x)
-}
-
-pub(crate) fn is_number(line: &[u8], inputs: u8, answer: Number) -> bool {
-    match answer {
-        Number::Value(x) => is_value(line, inputs, x),
-        Number::Refused(r) => is_refused(line, r, inputs),
-    }
-}
-
-pub(crate) fn is_sines(line: &[u8], answer: CheckedSines) -> bool {
-    let r = answer.refusal;
-    if r == 0 {
-        is_due(line, 0, 3) & is_pattern(line, 1, answer.sin) & is_pattern(line, 2, answer.cos)
+    if answer == 0 {
+        is_due(line, 0, first + 1) & (pattern(line, first) == out[0])
     } else {
-        is_refused(line, r, 1)
+        is_due(line, answer, first)
     }
 }
 
-pub(crate) fn is_index(line: &[u8], inputs: u8, answer: Index) -> bool {
-    let first = inputs as usize;
-    match answer {
-        Index::Value(i) => is_due(line, 0, first + 1) & (pattern(line, first) == i as u64),
-        Index::Refused(r) => is_refused(line, r, inputs),
-    }
+// ---- answers of so many numbers
+pub(crate) fn is_1(line: &[u8], inputs: u8, answer: u32, out: &[f64; 1]) -> bool {
+    is_answer(line, inputs, answer, out)
 }
 
-pub(crate) fn is_vector(line: &[u8], inputs: u8, answer: Vector) -> bool {
-    match answer {
-        Vector::Value(v) => is_due(line, 0, inputs as usize + 3) & is_vec3(line, inputs, v),
-        Vector::Refused(r) => is_refused(line, r, inputs),
-    }
+pub(crate) fn is_2(line: &[u8], inputs: u8, answer: u32, out: &[f64; 2]) -> bool {
+    is_answer(line, inputs, answer, out)
 }
 
-fn is_rigid(line: &[u8], k: u8, m: Rigid) -> bool {
-    is_vec3(line, k, m.rot.x)
-        & is_vec3(line, wrapping_add_u8(k, 3), m.rot.y)
-        & is_vec3(line, wrapping_add_u8(k, 6), m.rot.z)
-        & is_vec3(line, wrapping_add_u8(k, 9), m.shift)
+pub(crate) fn is_3(line: &[u8], inputs: u8, answer: u32, out: &[f64; 3]) -> bool {
+    is_answer(line, inputs, answer, out)
 }
 
-pub(crate) fn is_motion(line: &[u8], inputs: u8, answer: Motion) -> bool {
-    match answer {
-        Motion::Value(m) => is_due(line, 0, inputs as usize + 12) & is_rigid(line, inputs, m),
-        Motion::Refused(r) => is_refused(line, r, inputs),
-    }
+pub(crate) fn is_6(line: &[u8], inputs: u8, answer: u32, out: &[f64; 6]) -> bool {
+    is_answer(line, inputs, answer, out)
 }
 
-pub(crate) fn is_arc(line: &[u8], answer: ArcAnswer) -> bool {
-    match answer {
-        ArcAnswer::Value(a) => is_due(line, 0, 14)
-            & is_vec3(line, 7, a.center)
-            & is_vec3(line, 10, a.axis)
-            & is_pattern(line, 13, a.radius),
-        ArcAnswer::Refused(r) => is_refused(line, r, 7),
-    }
+pub(crate) fn is_7(line: &[u8], inputs: u8, answer: u32, out: &[f64; 7]) -> bool {
+    is_answer(line, inputs, answer, out)
 }
 
-pub(crate) fn is_box(line: &[u8], answer: Widened) -> bool {
-    match answer {
-        Widened::Box(b) => is_due(line, 0, 25)
-            & is_vec3(line, 19, b.low)
-            & is_vec3(line, 22, b.high),
-        Widened::Refused(r) => is_refused(line, r, 19),
-    }
+pub(crate) fn is_9(line: &[u8], inputs: u8, answer: u32, out: &[f64; 9]) -> bool {
+    is_answer(line, inputs, answer, out)
 }
 
-// The patterns from 16 on are those of the points.
-fn are_points(line: &[u8], points: &[f64]) -> bool {
-    let mut is_same = true;
-    let mut i = 0;
-    while i < points.len() {
-        is_same = is_same & is_pattern(line, wrapping_add_usize(i, 16), points[i]);
-        i += 1;
-    }
-    is_same
+pub(crate) fn is_10(line: &[u8], inputs: u8, answer: u32, out: &[f64; 10]) -> bool {
+    is_answer(line, inputs, answer, out)
+}
+
+pub(crate) fn is_12(line: &[u8], inputs: u8, answer: u32, out: &[f64; 12]) -> bool {
+    is_answer(line, inputs, answer, out)
 }
 
 // The written part of a row, after how many numbers it has.
@@ -123,8 +89,8 @@ pub(crate) fn is_row(line: &[u8], refusal: u8, points: &[f64]) -> bool {
     if refusal == 0 {
         is_due(line, 0, wrapping_add_usize(n, 16))
             & (pattern(line, 15) == n as u64)
-            & are_points(line, points)
+            & are_alike(line, 16, points)
     } else {
-        is_refused(line, refusal, 15) & (n == 0)
+        is_due(line, refusal as u32, 15) & (n == 0)
     }
 }

@@ -1,62 +1,165 @@
-// The operations by their numbers: each calls its entry on a line's inputs, and says whether the answer is the line's.
-use crate::answers::is_arc;
-use crate::answers::is_box;
-use crate::answers::is_index;
-use crate::answers::is_motion;
-use crate::answers::is_number;
+// The operations by their numbers: each calls the function that other languages call on a line's inputs, and says whether the
+// answer is the line's.
+use crate::answers::is_1;
+use crate::answers::is_2;
+use crate::answers::is_3;
+use crate::answers::is_6;
+use crate::answers::is_7;
+use crate::answers::is_9;
+use crate::answers::is_10;
+use crate::answers::is_12;
+use crate::answers::is_count;
 use crate::answers::is_row;
-use crate::answers::is_sines;
 use crate::answers::is_value;
-use crate::answers::is_vector;
-use crate::inputs::arc;
-use crate::inputs::bounds;
+use crate::inputs::eight;
 use crate::inputs::number;
-use crate::inputs::rigid;
-use crate::inputs::vec2;
-use crate::inputs::vec3;
+use crate::inputs::seven;
+use crate::inputs::six;
+use crate::inputs::tag;
+use crate::inputs::ten;
+use crate::inputs::three;
+use crate::inputs::twelve;
+use crate::inputs::two;
 use answer_lines::pattern;
 use answer_lines::refusal;
-use motions::Rigid;
-use profiles::ProfileArc;
+use arc_records::arc_of;
+use exports::of_arcs::jr_at;
+use exports::of_arcs::jr_extend_bounds;
+use exports::of_arcs::jr_per_turn;
+use exports::of_arcs::jr_reversed;
+use exports::of_arcs::jr_sweep;
+use exports::of_arcs::jr_turn;
+use exports::of_arcs::jr_unit;
+use exports::of_developments::jr_development_along;
+use exports::of_developments::jr_development_moved;
+use exports::of_developments::jr_development_point;
+use exports::of_developments::jr_development_radial;
+use exports::of_developments::jr_development_unroll;
+use exports::of_frames::jr_cone_frame;
+use exports::of_frames::jr_frame_angle;
+use exports::of_frames::jr_frame_point;
+use exports::of_motions::jr_apply;
+use exports::of_motions::jr_apply_vector;
+use exports::of_motions::jr_frame;
+use exports::of_motions::jr_rotation;
+use exports::of_numbers::jr_acos;
+use exports::of_numbers::jr_atan2;
+use exports::of_numbers::jr_ceil;
+use exports::of_numbers::jr_hypot;
+use exports::of_numbers::jr_round;
+use exports::of_numbers::jr_sin;
+use exports::of_numbers::jr_sincos;
+use exports::of_numbers::jr_sqrt;
+use exports::of_traces::jr_meet_point;
+use exports::of_traces::jr_trace_v;
+use exports::of_traces::jr_wave_at;
+use exports::of_traces::jr_wave_range;
+use exports::of_vectors::jr_cross;
+use exports::of_vectors::jr_difference;
+use exports::of_vectors::jr_dominant_axis;
+use exports::of_vectors::jr_dot;
+use exports::of_vectors::jr_negation;
+use exports::of_vectors::jr_sum;
+use exports::of_vectors::jr_times;
+use records::vec3_of;
 
 fn of_numbers(operation: u64, line: &[u8]) -> bool {
     let x = number(line, 0);
     let y = number(line, 1);
     match operation {
-        1 => is_value(line, 1, rounding::sqrt(x)),
-        2 => is_value(line, 1, rounding::ceil(x)),
-        3 => is_value(line, 1, rounding::round(x)),
-        4 => is_number(line, 1, checked::settle(circle::sin(x))),
-        5 => is_sines(line, circle::sincos(x)),
-        6 => is_value(line, 2, arctangent::atan2(x, y)),
-        7 => is_value(line, 1, roots::acos(x)),
-        8 => is_value(line, 2, roots::hypot(x, y)),
+        1 => is_value(line, 1, jr_sqrt(x)),
+        2 => is_value(line, 1, jr_ceil(x)),
+        3 => is_value(line, 1, jr_round(x)),
+        4 => {
+            let mut out = [0.0; 1];
+            let r = jr_sin(x, &mut out);
+            is_1(line, 1, r, &out)
+        }
+        5 => {
+            let mut out = [0.0; 2];
+            let r = jr_sincos(x, &mut out);
+            is_2(line, 1, r, &out)
+        }
+        6 => is_value(line, 2, jr_atan2(x, y)),
+        7 => is_value(line, 1, jr_acos(x)),
+        8 => is_value(line, 2, jr_hypot(x, y)),
         _ => false,
     }
 }
 
 fn of_vectors(operation: u64, line: &[u8]) -> bool {
-    let a = vec3(line, 0);
-    let b = vec3(line, 3);
+    let a = three(line, 0);
+    let b = three(line, 3);
     match operation {
-        9 => is_number(line, 6, a.dot(b)),
-        10 => is_vector(line, 6, a.cross(b)),
-        11 => is_vector(line, 6, a.sum(b)),
-        12 => is_vector(line, 6, a.difference(b)),
-        13 => is_vector(line, 3, a.negation()),
-        14 => is_vector(line, 4, a.times(number(line, 3))),
-        15 => is_index(line, 3, a.dominant_axis()),
+        9 => {
+            let mut out = [0.0; 1];
+            let r = jr_dot(&a, &b, &mut out);
+            is_1(line, 6, r, &out)
+        }
+        10 => {
+            let mut out = [0.0; 3];
+            let r = jr_cross(&a, &b, &mut out);
+            is_3(line, 6, r, &out)
+        }
+        11 => {
+            let mut out = [0.0; 3];
+            let r = jr_sum(&a, &b, &mut out);
+            is_3(line, 6, r, &out)
+        }
+        12 => {
+            let mut out = [0.0; 3];
+            let r = jr_difference(&a, &b, &mut out);
+            is_3(line, 6, r, &out)
+        }
+        13 => {
+            let mut out = [0.0; 3];
+            let r = jr_negation(&a, &mut out);
+            is_3(line, 3, r, &out)
+        }
+        14 => {
+            let mut out = [0.0; 3];
+            let r = jr_times(&a, number(line, 3), &mut out);
+            is_3(line, 4, r, &out)
+        }
+        15 => {
+            let mut out = [0; 1];
+            let r = jr_dominant_axis(&a, &mut out);
+            is_count(line, 3, r, &out)
+        }
         _ => false,
     }
 }
 
 fn of_motions(operation: u64, line: &[u8]) -> bool {
-    let m = rigid(line);
+    let m = twelve(line, 0);
+    let p = three(line, 12);
     match operation {
-        16 => is_motion(line, 4, Rigid::rotation(m.rot.x, number(line, 3))),
-        17 => is_motion(line, 12, Rigid::frame(m.rot.x, m.rot.y, m.rot.z, m.shift)),
-        18 => is_vector(line, 15, m.apply(vec3(line, 12))),
-        19 => is_vector(line, 15, m.apply_vector(vec3(line, 12))),
+        16 => {
+            let mut out = [0.0; 12];
+            let r = jr_rotation(&three(line, 0), number(line, 3), &mut out);
+            is_12(line, 4, r, &out)
+        }
+        17 => {
+            let mut out = [0.0; 12];
+            let r = jr_frame(
+                &three(line, 0),
+                &three(line, 3),
+                &three(line, 6),
+                &three(line, 9),
+                &mut out,
+            );
+            is_12(line, 12, r, &out)
+        }
+        18 => {
+            let mut out = [0.0; 3];
+            let r = jr_apply(&m, &p, &mut out);
+            is_3(line, 15, r, &out)
+        }
+        19 => {
+            let mut out = [0.0; 3];
+            let r = jr_apply_vector(&m, &p, &mut out);
+            is_3(line, 15, r, &out)
+        }
         _ => false,
     }
 }
@@ -64,28 +167,154 @@ fn of_motions(operation: u64, line: &[u8]) -> bool {
 fn of_turns(operation: u64, line: &[u8]) -> bool {
     match operation {
         20 => {
-            let p = ProfileArc {
-                center: vec2(line, 0),
-                ccw: pattern(line, 2) == 1,
-            };
-            is_number(line, 7, p.turn(vec2(line, 3), vec2(line, 5)))
+            let mut out = [0.0; 1];
+            let r = jr_turn(
+                &two(line, 0),
+                pattern(line, 2) == 1,
+                &two(line, 3),
+                &two(line, 5),
+                &mut out,
+            );
+            is_1(line, 7, r, &out)
         }
-        21 => is_vector(line, 3, directions::unit(vec3(line, 0))),
-        22 => is_number(line, 2, chords::per_turn(number(line, 0), number(line, 1))),
+        21 => {
+            let mut out = [0.0; 3];
+            let r = jr_unit(&three(line, 0), &mut out);
+            is_3(line, 3, r, &out)
+        }
+        22 => {
+            let mut out = [0.0; 1];
+            let r = jr_per_turn(number(line, 0), number(line, 1), &mut out);
+            is_1(line, 2, r, &out)
+        }
         _ => false,
     }
 }
 
 fn of_arcs(operation: u64, line: &[u8]) -> bool {
-    let a = arc(line);
-    let from = vec3(line, 7);
-    let to = vec3(line, 10);
+    let a = seven(line, 0);
+    let from = three(line, 7);
+    let to = three(line, 10);
     match operation {
-        23 => is_arc(line, a.reversed()),
-        24 => is_number(line, 13, a.sweep(from, to)),
-        25 => is_vector(line, 11, a.at(from, number(line, 10))),
+        23 => {
+            let mut out = [0.0; 7];
+            let r = jr_reversed(&a, &mut out);
+            is_7(line, 7, r, &out)
+        }
+        24 => {
+            let mut out = [0.0; 1];
+            let r = jr_sweep(&a, &from, &to, &mut out);
+            is_1(line, 13, r, &out)
+        }
+        25 => {
+            let mut out = [0.0; 3];
+            let r = jr_at(&a, &from, number(line, 10), &mut out);
+            is_3(line, 11, r, &out)
+        }
         26 => inner_points(line),
-        27 => is_box(line, a.extended(from, to, bounds(line))),
+        27 => {
+            let mut out = six(line, 13);
+            let r = jr_extend_bounds(&a, &from, &to, &mut out);
+            is_6(line, 19, r, &out)
+        }
+        _ => false,
+    }
+}
+
+fn of_developments(operation: u64, line: &[u8]) -> bool {
+    let d = ten(line, 0);
+    let p = two(line, 10);
+    match operation {
+        28 => {
+            let mut out = [0.0; 3];
+            let r = jr_development_radial(&d, number(line, 10), &mut out);
+            is_3(line, 11, r, &out)
+        }
+        29 => {
+            let mut out = [0.0; 3];
+            let r = jr_development_point(&d, &p, number(line, 12), &mut out);
+            is_3(line, 13, r, &out)
+        }
+        30 => {
+            let mut out = [0.0; 3];
+            let r = jr_development_along(&d, &p, &two(line, 12), number(line, 14), &mut out);
+            is_3(line, 15, r, &out)
+        }
+        31 => {
+            let mut out = [0.0; 3];
+            let r = jr_development_unroll(&d, &three(line, 10), number(line, 13), &mut out);
+            is_3(line, 14, r, &out)
+        }
+        32 => {
+            let mut out = [0.0; 10];
+            let r = jr_development_moved(&d, &twelve(line, 10), &mut out);
+            is_10(line, 22, r, &out)
+        }
+        _ => false,
+    }
+}
+
+fn of_traces(operation: u64, line: &[u8]) -> bool {
+    let w = three(line, 0);
+    let t = ten(line, 0);
+    let kind = tag(line, 10);
+    let u = number(line, 11);
+    let n = number(line, 12);
+    match operation {
+        33 => {
+            let mut out = [0.0; 3];
+            let r = jr_wave_at(&w, number(line, 3), number(line, 4), &mut out);
+            is_3(line, 5, r, &out)
+        }
+        34 => {
+            let mut out = [0.0; 2];
+            let r = jr_wave_range(
+                &w,
+                number(line, 3),
+                number(line, 4),
+                number(line, 5),
+                &mut out,
+            );
+            is_2(line, 6, r, &out)
+        }
+        35 => {
+            let mut out = [0.0; 9];
+            let r = jr_meet_point(&t, kind, u, n, &mut out);
+            is_9(line, 13, r, &out)
+        }
+        36 => {
+            let mut out = [0.0; 1];
+            let r = jr_trace_v(&t, kind, u, n, &mut out);
+            is_1(line, 13, r, &out)
+        }
+        _ => false,
+    }
+}
+
+fn of_frames(operation: u64, line: &[u8]) -> bool {
+    let f = twelve(line, 0);
+    match operation {
+        56 => {
+            let mut out = [0.0; 12];
+            let r = jr_cone_frame(&eight(line, 0), &mut out);
+            is_12(line, 8, r, &out)
+        }
+        57 => {
+            let mut out = [0.0; 1];
+            let r = jr_frame_angle(&f, &three(line, 12), &mut out);
+            is_1(line, 15, r, &out)
+        }
+        58 => {
+            let mut out = [0.0; 3];
+            let r = jr_frame_point(
+                &f,
+                number(line, 12),
+                number(line, 13),
+                number(line, 14),
+                &mut out,
+            );
+            is_3(line, 15, r, &out)
+        }
         _ => false,
     }
 }
@@ -96,15 +325,13 @@ const ROW: usize = 256;
 // What a row holds before the call; no point has such a number.
 const HELD: f64 = 123456.789;
 
+// By the entry in Rattle, whose answer is the written part of the row.
 fn is_part(line: &[u8], row: &mut [f64]) -> bool {
+    let a = arc_of(&seven(line, 0));
+    let from = vec3_of(&three(line, 7));
+    let to = vec3_of(&three(line, 10));
     let mut met = 0;
-    let part = arc(line).inner_points(
-        vec3(line, 7),
-        vec3(line, 10),
-        number(line, 13),
-        row,
-        &mut met,
-    );
+    let part = a.inner_points(from, to, number(line, 13), row, &mut met);
     is_row(line, met, part)
 }
 
@@ -151,6 +378,9 @@ pub(crate) fn is_alike(operation: u64, line: &[u8]) -> bool {
         9..=15 => of_vectors(operation, line),
         16..=19 => of_motions(operation, line),
         20..=22 => of_turns(operation, line),
-        _ => of_arcs(operation, line),
+        23..=27 => of_arcs(operation, line),
+        28..=32 => of_developments(operation, line),
+        33..=36 => of_traces(operation, line),
+        _ => of_frames(operation, line),
     }
 }

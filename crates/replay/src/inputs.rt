@@ -1,58 +1,98 @@
-// The inputs of a line, from its pattern k on.
+// The inputs of a line: numbers, and arrays of so many numbers from the pattern k on.
 use answer_lines::pattern;
-use arcs::Arc;
-use boxes::Bounds;
-use motions::Rigid;
-use motions::Rows;
-use vectors::Vec2;
-use vectors::Vec3;
 
 pub(crate) fn number(line: &[u8], k: usize) -> f64 {
     checked::of_bits(pattern(line, k))
 }
 
-pub(crate) fn vec2(line: &[u8], k: u8) -> Vec2 {
+// A flag, a tag or a count stands as itself.
+pub(crate) fn tag(line: &[u8], k: usize) -> u32 {
+    (pattern(line, k) % 4294967296) as u32
+}
+
+pub(crate) fn two(line: &[u8], k: u8) -> [f64; 2] {
     let first = k as usize;
-    Vec2 {
-        x: number(line, first),
-        y: number(line, first + 1),
-    }
+    [number(line, first), number(line, first + 1)]
 }
 
-pub(crate) fn vec3(line: &[u8], k: u8) -> Vec3 {
+pub(crate) fn three(line: &[u8], k: u8) -> [f64; 3] {
     let first = k as usize;
-    Vec3 {
-        x: number(line, first),
-        y: number(line, first + 1),
-        z: number(line, first + 2),
-    }
+    [
+        number(line, first),
+        number(line, first + 1),
+        number(line, first + 2),
+    ]
 }
 
-// The arc that a line begins with.
-pub(crate) fn arc(line: &[u8]) -> Arc {
-    Arc {
-        center: vec3(line, 0),
-        axis: vec3(line, 3),
-        radius: number(line, 6),
-    }
+pub(crate) fn six(line: &[u8], k: u8) -> [f64; 6] {
+    let first = k as usize;
+    [
+        number(line, first),
+        number(line, first + 1),
+        number(line, first + 2),
+        number(line, first + 3),
+        number(line, first + 4),
+        number(line, first + 5),
+    ]
 }
 
-// The motion that a line begins with.
-pub(crate) fn rigid(line: &[u8]) -> Rigid {
-    Rigid {
-        rot: Rows {
-            x: vec3(line, 0),
-            y: vec3(line, 3),
-            z: vec3(line, 6),
-        },
-        shift: vec3(line, 9),
-    }
+pub(crate) fn seven(line: &[u8], k: u8) -> [f64; 7] {
+    let first = k as usize;
+    [
+        number(line, first),
+        number(line, first + 1),
+        number(line, first + 2),
+        number(line, first + 3),
+        number(line, first + 4),
+        number(line, first + 5),
+        number(line, first + 6),
+    ]
 }
 
-// The box that follows an arc and its two ends.
-pub(crate) fn bounds(line: &[u8]) -> Bounds {
-    Bounds {
-        low: vec3(line, 13),
-        high: vec3(line, 16),
-    }
+pub(crate) fn eight(line: &[u8], k: u8) -> [f64; 8] {
+    let first = k as usize;
+    [
+        number(line, first),
+        number(line, first + 1),
+        number(line, first + 2),
+        number(line, first + 3),
+        number(line, first + 4),
+        number(line, first + 5),
+        number(line, first + 6),
+        number(line, first + 7),
+    ]
+}
+
+pub(crate) fn ten(line: &[u8], k: u8) -> [f64; 10] {
+    let first = k as usize;
+    [
+        number(line, first),
+        number(line, first + 1),
+        number(line, first + 2),
+        number(line, first + 3),
+        number(line, first + 4),
+        number(line, first + 5),
+        number(line, first + 6),
+        number(line, first + 7),
+        number(line, first + 8),
+        number(line, first + 9),
+    ]
+}
+
+pub(crate) fn twelve(line: &[u8], k: u8) -> [f64; 12] {
+    let first = k as usize;
+    [
+        number(line, first),
+        number(line, first + 1),
+        number(line, first + 2),
+        number(line, first + 3),
+        number(line, first + 4),
+        number(line, first + 5),
+        number(line, first + 6),
+        number(line, first + 7),
+        number(line, first + 8),
+        number(line, first + 9),
+        number(line, first + 10),
+        number(line, first + 11),
+    ]
 }

@@ -1,14 +1,14 @@
 use Prim.Native.Nat.{_-_}
 use lib.ListN.{length}
 use borrow.Author.Needs.{needs}
-use Rattle.replay.proofs.answers.are_points.Statement.{statement}
-use Rattle.replay.proofs.answers.are_points.Tie as tie
+use Rattle.replay.proofs.answers.are_alike.Statement.{statement}
+use Rattle.replay.proofs.answers.are_alike.Tie as tie
 
 abbrev Inv-loop : tie.InvT-loop
-Inv-loop line points is-same₀ i₀ is-same i = Unit {0}
+Inv-loop line k out first is-same₀ i₀ is-same i = Unit {0}
 
 abbrev μ-loop : tie.MeasureT-loop
-μ-loop line points is-same₀ i₀ is-same i = length points - i
+μ-loop line k out first is-same₀ i₀ is-same i = length out - i
 
 loop-holds : tie.Need-loop-holds Inv-loop μ-loop
 loop-holds c = search needs
@@ -16,14 +16,17 @@ loop-holds c = search needs
 wrapping-add-usize-requires : tie.Need-wrapping-add-usize-requires Inv-loop μ-loop
 wrapping-add-usize-requires c κs = search needs
 
-mul-is-pattern : tie.Need-mul-is-pattern Inv-loop μ-loop
-mul-is-pattern c = search needs
+pattern-requires : tie.Need-pattern-requires Inv-loop μ-loop
+pattern-requires c κs = search needs
 
-shared-slice-read-is-pattern : tie.Need-shared-slice-read-is-pattern Inv-loop μ-loop
-shared-slice-read-is-pattern c = search needs
+mul-bits : tie.Need-mul-bits Inv-loop μ-loop
+mul-bits c = search needs
 
-is-pattern-requires : tie.Need-is-pattern-requires Inv-loop μ-loop
-is-pattern-requires c κs = search needs
+shared-slice-read-bits : tie.Need-shared-slice-read-bits Inv-loop μ-loop
+shared-slice-read-bits c = search needs
+
+bits-requires : tie.Need-bits-requires Inv-loop μ-loop
+bits-requires c κs = search needs
 
 add-i : tie.Need-add-i Inv-loop μ-loop
 add-i c = search needs
@@ -37,17 +40,18 @@ loop-again c = search needs
 returns : tie.Need-returns Inv-loop μ-loop
 returns c = tt
 
-pub are-points-spec : {M : Type 1} → statement M
-are-points-spec =
+pub are-alike-spec : {M : Type 1} → statement M
+are-alike-spec =
     tie.close
     (tie.spec
     Inv-loop
     μ-loop
     loop-holds
     wrapping-add-usize-requires
-    mul-is-pattern
-    shared-slice-read-is-pattern
-    is-pattern-requires
+    pattern-requires
+    mul-bits
+    shared-slice-read-bits
+    bits-requires
     add-i
     loop-less
     loop-again
