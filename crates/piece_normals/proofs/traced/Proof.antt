@@ -1,0 +1,35 @@
+use borrow.Author.Needs.{needs}
+use Rattle.piece_normals.specs.Normals.{tracedC}
+use Rattle.piece_normals.proofs.traced.Statement.{statement}
+use Rattle.piece_normals.proofs.traced.Tie as tie
+
+enum-known-t : tie.Need-enum-known-t
+enum-known-t c = search needs
+
+wave-direction-requires : tie.Need-wave-direction-requires
+wave-direction-requires c κs = search needs
+
+enum-known-t-2 : tie.Need-enum-known-t-2
+enum-known-t-2 c = search needs
+
+meet-direction-requires : tie.Need-meet-direction-requires
+meet-direction-requires c κs = search needs
+
+returns : tie.Need-returns
+unfolding tracedC
+returns c = (simp (c .wave-direction .ensures .0, c .before .before .t .given .1), simp (c .wave-direction .ensures .1, c .before .before .t .given .1))
+
+returns-2 : tie.Need-returns-2
+unfolding tracedC
+returns-2 c = (simp (c .meet-direction .ensures .0, c .before .before .t2 .given .1), simp (c .meet-direction .ensures .1, c .before .before .t2 .given .1))
+
+pub traced-spec : {M : Type 1} → statement M
+traced-spec =
+    tie.close
+    (tie.spec
+    enum-known-t
+    wave-direction-requires
+    enum-known-t-2
+    meet-direction-requires
+    returns
+    returns-2)

@@ -1,0 +1,103 @@
+-- `Rolled::normal`: the unit normal of the wall over a piece, left of the piece's direction.
+use mathlib.Core.Bool.{Bool, cond}
+use lib.Ieee.{Float}
+use Rattle.checked.specs.Checked.{Checked, first, _>>=_, given, finite, num, _⊖_, _⊗_, _⊘_}
+use Rattle.directions.specs.Directions.{unitC}
+use Rattle.vectors.specs.declared.Vec2.{Vec2}
+use Rattle.vectors.specs.declared.Vec3.{Vec3}
+use Rattle.vectors.specs.Vectors.{plane, vec, _⨯_}
+use Rattle.profiles.specs.declared.ProfileArc.{ProfileArc}
+use Rattle.pipes.specs.declared.Pipe.{Pipe}
+use Rattle.waves.specs.declared.Wave.{Wave}
+use Rattle.wave_values.specs.Values as waves
+use Rattle.meets.specs.declared.Turn.{Turn}
+use Rattle.meets.specs.declared.Turn.the-variants as turn
+use Rattle.meets.specs.declared.Meet.{Meet}
+use Rattle.meets.specs.Meets.{pipeC}
+use Rattle.traces.specs.declared.Trace.{Trace}
+use Rattle.traces.specs.declared.Trace.the-variants as trace
+use Rattle.courses.specs.declared.Course.{Course}
+use Rattle.courses.specs.Courses.{slopeUC, slopeVC}
+use Rattle.rolls.specs.Rolls.{radialC, alongC}
+use Rattle.runs.specs.declared.PieceArc.{PieceArc}
+use Rattle.runs.specs.declared.PieceArc.the-variants as piece-arc
+use Rattle.runs.specs.declared.PieceTrace.{PieceTrace}
+use Rattle.runs.specs.declared.PieceTrace.the-variants as piece-trace
+use Rattle.hole_directions.specs.Directions.{gradientC, facing, sideC}
+
+-- ---- the direction of a piece at p
+unfoldable pub straightC : Vec2 → Vec2 → Checked Vec2
+straightC from to = do
+  x ← num (to .x) ⊖ num (from .x)
+  y ← num (to .y) ⊖ num (from .y)
+  given (plane x y)
+
+-- along an arc, by its sense: a quarter turn from the way out, counterclockwise or clockwise
+unfoldable pub arcC : ProfileArc → Vec2 → Checked Vec2
+arcC a p =
+    cond
+    (a .ccw)
+    (do
+      x ← num (a .center .y) ⊖ num (p .y)
+      y ← num (p .x) ⊖ num (a .center .x)
+      given (plane x y))
+    (do
+      x ← num (p .y) ⊖ num (a .center .y)
+      y ← num (a .center .x) ⊖ num (p .x)
+      given (plane x y))
+
+unfoldable pub waveC : Wave → Vec2 → Vec2 → Float → Vec2 → Checked Vec2
+waveC w from to n p = do
+  du ← num (to .x) ⊖ num (from .x)
+  s ← waves.slopeC (w .b) (w .c) (p .x) n
+  y ← num s ⊗ num du
+  given (plane du y)
+
+-- the course of a meet whose pipe is worked out
+abbrev pub courseOf : Meet → Vec2 → Vec2 → Float → Pipe → Course
+courseOf m from to n pipe = record { from = from .x; to = to .x; neutral = n; turn = m .turn; pipe = pipe }
+
+-- without `turn`: the derivative where u is that of p
+unfoldable pub ownC : Meet → Vec2 → Vec2 → Float → Vec2 → Checked Vec2
+ownC m from to n p = do
+  du ← num (to .x) ⊖ num (from .x)
+  t ← (num (p .x) ⊖ num (from .x)) ⊘ num du
+  pipe ← pipeC m n
+  x ← slopeUC (courseOf m from to n pipe) t
+  y ← slopeVC (courseOf m from to n pipe) t
+  given (plane x y)
+
+-- with it: the gradient at p is worked out first, then the pipe and what is read at the piece's middle
+unfoldable pub holeC : Meet → Vec2 → Vec2 → Float → Vec2 → Checked Vec2
+holeC m from to n p = do
+  g ← gradientC (m .origin) (m .axis) (m .own) n p
+  pipe ← pipeC m n
+  s ← sideC (m .origin) (m .axis) (m .own) (courseOf m from to n pipe)
+  given (facing g s)
+
+abbrev pub meetBy : Turn → Meet → Vec2 → Vec2 → Float → Vec2 → Checked Vec2
+meetBy turn.Without m from to n p = ownC m from to n p
+meetBy (turn.Angles f g) m from to n p = holeC m from to n p
+
+unfoldable pub meetC : Meet → Vec2 → Vec2 → Float → Vec2 → Checked Vec2
+meetC m from to n p = meetBy (m .turn) m from to n p
+
+unfoldable pub tracedC : Trace → Vec2 → Vec2 → Float → Vec2 → Checked Vec2
+tracedC (trace.Wave w) from to n p = waveC w from to n p
+tracedC (trace.Meet m) from to n p = meetC m from to n p
+
+unfoldable pub untracedC : PieceArc → Vec2 → Vec2 → Vec2 → Checked Vec2
+untracedC (piece-arc.With a) from to p = arcC a p
+untracedC piece-arc.Without from to p = straightC from to
+
+unfoldable pub directionC : PieceArc → PieceTrace → Vec2 → Vec2 → Float → Vec2 → Checked Vec2
+directionC arc (piece-trace.With t) from to n p = tracedC t from to n p
+directionC arc piece-trace.Without from to n p = untracedC arc from to p
+
+-- ---- at r from the axis, where the piece has the direction d
+unfoldable pub normalC : Vec3 → Vec3 → Float → Vec2 → Vec2 → Float → Checked Vec3
+normalC axis start n p d r = do
+  a ← radialC axis start n (p .x)
+  b ← alongC axis start n p d r
+  c ← vec a ⨯ vec b
+  unitC c
