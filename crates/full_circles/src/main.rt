@@ -1,5 +1,6 @@
 // Which arcs are full circles. First an arc from (3, 4, 0) about the z axis, to ends some bits of y
-// ahead of it and behind it: their sweeps, by bit pattern. Then a million arcs between drawn
+// ahead of it and behind it: their sweeps, by bit pattern; and from (5, 0, 0), where the least
+// number ahead is lost since its arctangent rounds to 0. Then a million arcs between drawn
 // points, half of them a few bits apart: each is a full circle exactly where its arctangent lies in
 // [-2^-51, 0], as crates/turns proves.
 use arcs::Arc;
@@ -33,12 +34,9 @@ fn sweep_of(from: Vec3, to: Vec3) -> f64 {
     }
 }
 
-// The sweep from (3, 4, 0) to (3, y, 0), y by its pattern.
-fn show(name: &[u8], y: u64) {
-    let sweep = sweep_of(
-        Vec3::new(3.0, 4.0, 0.0),
-        Vec3::new(3.0, checked::of_bits(y), 0.0),
-    );
+// The sweep from a point to the one beside it with another y, given by its pattern.
+fn show(name: &[u8], from: Vec3, y: u64) {
+    let sweep = sweep_of(from, Vec3::new(from.x, checked::of_bits(y), 0.0));
     say(name);
     io::print_hex(libc::STDOUT_FILENO, checked::bits(sweep), 16);
     if sweep == TAU {
@@ -104,11 +102,15 @@ fn count(calls: u32) -> u32 {
 }
 
 fn main() {
-    show(b"9 bits behind: ", 0x400f_ffff_ffff_fff7);
-    show(b"8 bits behind: ", 0x400f_ffff_ffff_fff8);
-    show(b"1 bit behind: ", 0x400f_ffff_ffff_ffff);
-    show(b"the same: ", 0x4010_0000_0000_0000);
-    show(b"1 bit ahead: ", 0x4010_0000_0000_0001);
+    let p = Vec3::new(3.0, 4.0, 0.0);
+    show(b"9 bits behind: ", p, 0x400f_ffff_ffff_fff7);
+    show(b"8 bits behind: ", p, 0x400f_ffff_ffff_fff8);
+    show(b"1 bit behind: ", p, 0x400f_ffff_ffff_ffff);
+    show(b"the same: ", p, 0x4010_0000_0000_0000);
+    show(b"1 bit ahead: ", p, 0x4010_0000_0000_0001);
+    let q = Vec3::new(5.0, 0.0, 0.0);
+    show(b"1 bit ahead of 0: ", q, 1);
+    show(b"3 bits ahead of 0: ", q, 3);
     say(b"drawn ");
     io::print_decimal(libc::STDOUT_FILENO, CALLS as u64);
     say(b", as proved ");

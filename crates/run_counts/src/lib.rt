@@ -77,10 +77,7 @@ pub fn chords_of(r: Run, radius: f64, chord: f64) -> CheckedCount
         refusal: earlier(
             note(
                 earlier(
-                    note(
-                        note(earlier(note(m.refusal, x), p.refusal), own),
-                        y,
-                    ),
+                    note(note(earlier(note(m.refusal, x), p.refusal), own), y),
                     q.refusal,
                 ),
                 bend,
