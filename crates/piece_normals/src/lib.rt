@@ -93,7 +93,10 @@ fn own_direction(m: Meet, from: Vec2, to: Vec2, n: f64, p: Vec2) -> CheckedVec2
     };
     let d = motion(c, t);
     CheckedVec2 {
-        refusal: earlier(note(note(0, du), t), earlier(x.refusal, earlier(d.ru, d.rv))),
+        refusal: earlier(
+            note(note(0, du), t),
+            earlier(x.refusal, earlier(d.ru, d.rv)),
+        ),
         value: Vec2 { x: d.u, y: d.v },
     }
 }
@@ -155,7 +158,14 @@ fn untraced(arc: PieceArc, from: Vec2, to: Vec2, p: Vec2) -> CheckedVec2
 }
 
 // The direction of a piece at p.
-pub fn direction(arc: PieceArc, trace: PieceTrace, from: Vec2, to: Vec2, n: f64, p: Vec2) -> CheckedVec2
+pub fn direction(
+    arc: PieceArc,
+    trace: PieceTrace,
+    from: Vec2,
+    to: Vec2,
+    n: f64,
+    p: Vec2,
+) -> CheckedVec2
     ensures refusal { λ r. ⌜ r .refusal ≡ directionC arc trace from to n p .refusal ⌝ }
     ensures value { λ r. ⌜ r .value ≡ directionC arc trace from to n p .value ⌝ }
 {

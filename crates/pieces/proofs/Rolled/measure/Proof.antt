@@ -1,0 +1,37 @@
+use borrow.Author.Needs.{needs}
+use Rattle.pieces.specs.Entries.{measureDue}
+use Rattle.handed.specs.Laws.{passing-none, passing-some}
+use mathlib.Core.Path.{sym}
+use Rattle.pieces.proofs.Rolled.measure.Statement.{statement}
+use Rattle.pieces.proofs.Rolled.measure.Tie as tie
+
+tried-requires : tie.Need-tried-requires
+tried-requires c κs = search needs
+
+run-requires : tie.Need-run-requires
+run-requires c κs = search needs
+
+measure-of-requires : tie.Need-measure-of-requires
+measure-of-requires c κs = search needs
+
+settle-measure-requires : tie.Need-settle-measure-requires
+settle-measure-requires c κs = search needs
+
+returns : tie.Need-returns
+unfolding measureDue
+returns c = simp (c .settle-measure .ensures, c .before .measure-of .ensures .0, c .before .measure-of .ensures .1, c .before .before .before .run .ensures .0, c .before .before .before .run .ensures .1, c .before .before .before .before .if1 .taken, passing-none, ← c .before .before .before .before .before .tried .ensures)
+
+returns-2 : tie.Need-returns-2
+unfolding measureDue
+returns-2 c = simp (← c .before .tried .ensures) (sym (passing-some _ _ (c .if1 .left)))
+
+pub measure-spec : {M : Type 1} → statement M
+measure-spec =
+    tie.close
+    (tie.spec
+    tried-requires
+    run-requires
+    measure-of-requires
+    settle-measure-requires
+    returns
+    returns-2)

@@ -1,0 +1,41 @@
+use borrow.Author.Needs.{needs}
+use Rattle.pieces.specs.Entries.{polylineDue}
+use Rattle.handed.specs.Laws.{passing-none, passing-some}
+use mathlib.Core.Path.{sym}
+use Rattle.pieces.proofs.Rolled.polyline.Statement.{statement}
+use Rattle.pieces.proofs.Rolled.polyline.Tie as tie
+
+is-within-requires : tie.Need-is-within-requires
+is-within-requires c κs = search needs
+
+tried-requires : tie.Need-tried-requires
+tried-requires c κs = search needs
+
+run-requires : tie.Need-run-requires
+run-requires c κs = search needs
+
+polyline-of-requires : tie.Need-polyline-of-requires
+polyline-of-requires c κs = search needs
+
+settle-count-requires : tie.Need-settle-count-requires
+settle-count-requires c κs = search needs
+
+returns : tie.Need-returns
+unfolding polylineDue
+returns c = simp (c .settle-count .ensures, c .before .polyline-of .ensures .0, c .before .polyline-of .ensures .1, c .before .before .before .run .ensures .0, c .before .before .before .run .ensures .1, c .before .before .before .before .if1 .taken, passing-none, ← c .before .before .before .before .before .tried .ensures, ← c .before .before .before .before .before .before .is-within .ensures)
+
+returns-2 : tie.Need-returns-2
+unfolding polylineDue
+returns-2 c = simp (← c .before .tried .ensures, ← c .before .before .is-within .ensures) (sym (passing-some _ _ (c .if1 .left)))
+
+pub polyline-spec : {M : Type 1} → statement M
+polyline-spec =
+    tie.close
+    (tie.spec
+    is-within-requires
+    tried-requires
+    run-requires
+    polyline-of-requires
+    settle-count-requires
+    returns
+    returns-2)

@@ -1,0 +1,41 @@
+use borrow.Author.Needs.{needs}
+use Rattle.pieces.specs.Entries.{secondDue}
+use Rattle.handed.specs.Laws.{passing-none, passing-some}
+use mathlib.Core.Path.{sym}
+use Rattle.pieces.proofs.Rolled.second.Statement.{statement}
+use Rattle.pieces.proofs.Rolled.second.Tie as tie
+
+is-within-requires : tie.Need-is-within-requires
+is-within-requires c κs = search needs
+
+tried-requires : tie.Need-tried-requires
+tried-requires c κs = search needs
+
+run-requires : tie.Need-run-requires
+run-requires c κs = search needs
+
+second-requires : tie.Need-second-requires
+second-requires c κs = search needs
+
+settle-second-requires : tie.Need-settle-second-requires
+settle-second-requires c κs = search needs
+
+returns : tie.Need-returns
+unfolding secondDue
+returns c = simp (c .settle-second .ensures, c .before .second .ensures .0, c .before .second .ensures .1, c .before .before .before .run .ensures .0, c .before .before .before .run .ensures .1, c .before .before .before .before .if1 .taken, passing-none, ← c .before .before .before .before .before .tried .ensures, ← c .before .before .before .before .before .before .is-within .ensures)
+
+returns-2 : tie.Need-returns-2
+unfolding secondDue
+returns-2 c = simp (← c .before .tried .ensures, ← c .before .before .is-within .ensures) (sym (passing-some _ _ (c .if1 .left)))
+
+pub second-spec : {M : Type 1} → statement M
+second-spec =
+    tie.close
+    (tie.spec
+    is-within-requires
+    tried-requires
+    run-requires
+    second-requires
+    settle-second-requires
+    returns
+    returns-2)

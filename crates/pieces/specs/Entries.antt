@@ -1,0 +1,119 @@
+-- What the entries on pieces are due to answer.
+use Prim.Native.Nat.{ℕ}
+use mathlib.Core.Bool.{Bool, true, not, _&&_}
+use lib.Ieee.{Float, lt}
+use Rattle.checked.specs.Checked.{Checked, first, _>>=_, within, Due, due, refused, answered}
+use Rattle.checked.specs.Numbers.{zero}
+use Rattle.handed.specs.Handed.{passing}
+use Rattle.vectors.specs.declared.Vec2.{Vec2}
+use Rattle.vectors.specs.declared.Vec3.{Vec3}
+use Rattle.vectors.specs.Vectors.{within2}
+use Rattle.developments.specs.Developments.{developmentWithin}
+use Rattle.courses.specs.declared.Place.{Place}
+use Rattle.windows.specs.declared.FlatBox.{FlatBox}
+use Rattle.measures.specs.declared.Measure.{Measure}
+use Rattle.measures.specs.Measures.{measureC}
+use Rattle.run_points.specs.Points.{atC}
+use Rattle.run_bends.specs.Bends.{secondC}
+use Rattle.run_boxes.specs.Boxes.{boxC}
+use Rattle.run_counts.specs.Counts.{quadratureC, chordsC, polylineC}
+use Rattle.piece_parts.specs.Tests.{arcWithin, followedWithin, both, handedPiece}
+use Rattle.pieces.specs.declared.Rolled.{Rolled}
+use Rattle.pieces.specs.declared.RolledPoint.{RolledPoint}
+use Rattle.pieces.specs.declared.RolledPoint.the-variants as rolled-point
+use Rattle.pieces.specs.declared.RolledSecond.{RolledSecond}
+use Rattle.pieces.specs.declared.RolledSecond.the-variants as rolled-second
+use Rattle.pieces.specs.declared.RolledPiece.{RolledPiece}
+use Rattle.pieces.specs.declared.RolledPiece.the-variants as rolled-piece
+use Rattle.pieces.specs.declared.RolledMeasure.{RolledMeasure}
+use Rattle.pieces.specs.declared.RolledMeasure.the-variants as rolled-measure
+use Rattle.pieces.specs.declared.RolledCount.{RolledCount}
+use Rattle.pieces.specs.declared.RolledCount.the-variants as rolled-count
+use Rattle.pieces.specs.declared.RolledBox.{RolledBox}
+use Rattle.pieces.specs.declared.RolledBox.the-variants as rolled-box
+use Rattle.pieces.specs.Pieces.{runC, back, normalC}
+
+-- ---- what the code's answers say
+abbrev pub placeDue : RolledPoint → Due Place
+placeDue (rolled-point.Value v) = due v
+placeDue (rolled-point.Refused n) = refused n
+
+abbrev pub flatDue : RolledSecond → Due Vec2
+flatDue (rolled-second.Value v) = due v
+flatDue (rolled-second.Refused n) = refused n
+
+abbrev pub pieceDue : RolledPiece → Due Rolled
+pieceDue (rolled-piece.Value v) = due v
+pieceDue (rolled-piece.Refused n) = refused n
+
+abbrev pub measuredDue : RolledMeasure → Due Measure
+measuredDue (rolled-measure.Value v) = due v
+measuredDue (rolled-measure.Refused n) = refused n
+
+abbrev pub countDue : RolledCount → Due ℕ
+countDue (rolled-count.Value v) = due v
+countDue (rolled-count.Refused n) = refused n
+
+abbrev pub boxDue : RolledBox → Due FlatBox
+boxDue (rolled-box.Value v) = due v
+boxDue (rolled-box.Refused n) = refused n
+
+-- ---- what is tried
+-- all numbers of a piece are within the limit, those of an arc and of a trace too, read or not
+unfoldable pub pieceWithin : Rolled → Bool
+pieceWithin p = developmentWithin (p .dev) && (within2 (p .from) && (within2 (p .to) && (arcWithin (p .arc) && followedWithin (p .trace))))
+
+-- the number of the test that fails first: of the piece, of the other numbers handed in, of a chord or a deviation
+unfoldable pub tests : Rolled → Bool → Bool → ℕ
+tests p others tolerable = handedPiece (pieceWithin p && others) (p .dev .neutral) (both (p .arc) (p .trace)) tolerable
+
+-- ---- what is due
+-- `Rolled::at`
+unfoldable pub atDue : Rolled → Float → Due Place
+atDue p t = passing (tests p (within t) true) (answered (do
+  r ← runC p
+  atC r t))
+
+-- `Rolled::second`
+unfoldable pub secondDue : Rolled → Float → Due Vec2
+secondDue p t = passing (tests p (within t) true) (answered (do
+  r ← runC p
+  secondC r t))
+
+-- `Rolled::reversed`
+unfoldable pub reversedDue : Rolled → Due Rolled
+reversedDue p = passing (tests p true true) (due (back p))
+
+-- `Rolled::measure`
+unfoldable pub measureDue : Rolled → Due Measure
+measureDue p = passing (tests p true true) (answered (do
+  r ← runC p
+  measureC r))
+
+-- `Rolled::quadrature_pieces`
+unfoldable pub quadratureDue : Rolled → Due ℕ
+quadratureDue p = passing (tests p true true) (answered (do
+  r ← runC p
+  quadratureC r))
+
+-- `Rolled::chords`: a chord below 0 is refused; -0 is none
+unfoldable pub chordsDue : Rolled → Float → Float → Due ℕ
+chordsDue p radius chord = passing (tests p (within radius && within chord) (not (lt chord zero))) (answered (do
+  r ← runC p
+  chordsC r radius chord))
+
+-- `Rolled::polyline`: a deviation not above 0 is refused
+unfoldable pub polylineDue : Rolled → Float → Due ℕ
+polylineDue p deviation = passing (tests p (within deviation) (lt zero deviation)) (answered (do
+  r ← runC p
+  polylineC r deviation))
+
+-- `Rolled::uv_box`
+unfoldable pub uvBoxDue : Rolled → Due FlatBox
+uvBoxDue p = passing (tests p true true) (answered (do
+  r ← runC p
+  boxC r))
+
+-- `Rolled::normal`
+unfoldable pub normalDue : Rolled → Vec2 → Float → Due Vec3
+normalDue p q r = passing (tests p (within2 q && within r) true) (answered (normalC p q r))

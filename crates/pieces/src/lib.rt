@@ -1,0 +1,286 @@
+// A piece of a development: what a program may call is here, what others build on is in `formula`.
+ghost use mathlib.Core.Path.{_≡_};
+ghost use Rattle.checked.specs.Checked.{first, settled};
+ghost use Rattle.pieces.specs.Entries.{placeDue, flatDue, pieceDue, measuredDue, countDue, boxDue, pieceWithin, tests, atDue, secondDue, reversedDue, measureDue, quadratureDue, chordsDue, polylineDue, uvBoxDue, normalDue};
+ghost use Rattle.vectors.specs.Entries.{vectorDue};
+use checked::earlier;
+use checked::is_within;
+use counts::CheckedCount;
+use courses::CheckedPlace;
+use courses::CheckedVec2;
+use courses::Place;
+use developments::Development;
+use measures::CheckedMeasure;
+use measures::Measure;
+use measures::measure_of;
+use piece_parts::are_both;
+use piece_parts::is_arc_within;
+use piece_parts::is_trace_within;
+use piece_parts::tried_piece;
+use run_bends::second;
+use run_boxes::uv_box;
+use run_counts::chords_of;
+use run_counts::polyline_of;
+use run_counts::quadrature_pieces;
+use run_points::at;
+use runs::PieceArc;
+use runs::PieceTrace;
+use vectors::Vec2;
+use vectors::Vector;
+use vectors::is_within2;
+use windows::CheckedBox;
+use windows::FlatBox;
+
+pub mod formula;
+
+// A segment, an arc or a trace of a development, from `from` to `to`; never an arc and a trace.
+pub struct Rolled {
+    pub dev: Development,
+    pub from: Vec2,
+    pub to: Vec2,
+    pub arc: PieceArc,
+    pub trace: PieceTrace,
+}
+
+// The answer of `at`: the point and its derivative.
+pub enum RolledPoint {
+    Value(Place),
+    Refused(u8),
+}
+
+// The answer of `second`.
+pub enum RolledSecond {
+    Value(Vec2),
+    Refused(u8),
+}
+
+// The answer of `reversed`.
+pub enum RolledPiece {
+    Value(Rolled),
+    Refused(u8),
+}
+
+// The answer of `measure`.
+pub enum RolledMeasure {
+    Value(Measure),
+    Refused(u8),
+}
+
+// The answer of `quadrature_pieces`, `chords` and `polyline`.
+pub enum RolledCount {
+    Value(u16),
+    Refused(u8),
+}
+
+// The answer of `uv_box`.
+pub enum RolledBox {
+    Value(FlatBox),
+    Refused(u8),
+}
+
+// ---- the value, or the refusal met first, where there is one: r before it
+fn settle_place(r: u8, c: CheckedPlace) -> RolledPoint
+    ensures { λ o. ⌜ placeDue o ≡ settled (first r (c .refusal)) (c .value) ⌝ }
+{
+    let n = earlier(r, c.refusal);
+    let v = c.value;
+    if n == 0 {
+        RolledPoint::Value(v)
+    } else {
+        RolledPoint::Refused(n)
+    }
+}
+
+fn settle_second(r: u8, c: CheckedVec2) -> RolledSecond
+    ensures { λ o. ⌜ flatDue o ≡ settled (first r (c .refusal)) (c .value) ⌝ }
+{
+    let n = earlier(r, c.refusal);
+    let v = c.value;
+    if n == 0 {
+        RolledSecond::Value(v)
+    } else {
+        RolledSecond::Refused(n)
+    }
+}
+
+fn settle_measure(r: u8, c: CheckedMeasure) -> RolledMeasure
+    ensures { λ o. ⌜ measuredDue o ≡ settled (first r (c .refusal)) (c .value) ⌝ }
+{
+    let n = earlier(r, c.refusal);
+    let v = c.value;
+    if n == 0 {
+        RolledMeasure::Value(v)
+    } else {
+        RolledMeasure::Refused(n)
+    }
+}
+
+fn settle_count(r: u8, c: CheckedCount) -> RolledCount
+    ensures { λ o. ⌜ countDue o ≡ settled (first r (c .refusal)) (c .value) ⌝ }
+{
+    let n = earlier(r, c.refusal);
+    if n == 0 {
+        RolledCount::Value(c.value)
+    } else {
+        RolledCount::Refused(n)
+    }
+}
+
+fn settle_box(r: u8, c: CheckedBox) -> RolledBox
+    ensures { λ o. ⌜ boxDue o ≡ settled (first r (c .refusal)) (c .value) ⌝ }
+{
+    let n = earlier(r, c.refusal);
+    let v = c.value;
+    if n == 0 {
+        RolledBox::Value(v)
+    } else {
+        RolledBox::Refused(n)
+    }
+}
+
+impl Rolled {
+    // All numbers of the piece pass the test of what is handed in.
+    pub fn is_within_limit(self) -> bool
+        ensures { λ r. ⌜ r ≡ pieceWithin self ⌝ }
+    {
+        let d = self.dev;
+        let f = self.from;
+        let g = self.to;
+        let a = self.arc;
+        let t = self.trace;
+        d.is_within_limit()
+            & (is_within2(f) & (is_within2(g) & (is_arc_within(a) & is_trace_within(t))))
+    }
+
+    // The number of the test of what is handed in that fails first, 0 for none.
+    pub fn tried(self, others: bool, tolerable: bool) -> u8
+        ensures { λ r. ⌜ r ≡ tests self others tolerable ⌝ }
+    {
+        let a = self.arc;
+        let t = self.trace;
+        let within = self.is_within_limit() & others;
+        tried_piece(within, self.dev.neutral, are_both(a, t), tolerable)
+    }
+
+    // The point at t, from 0 at `from` to 1 at `to`, and its derivative in t.
+    pub fn at(self, t: f64) -> RolledPoint
+        ensures { λ r. ⌜ placeDue r ≡ atDue self t ⌝ }
+    {
+        let n = self.tried(is_within(t), true);
+        if n == 0 {
+            let x = formula::run(self);
+            let r = x.value;
+            settle_place(x.refusal, at(r, t))
+        } else {
+            RolledPoint::Refused(n)
+        }
+    }
+
+    // The second derivative in t of `at`.
+    pub fn second(self, t: f64) -> RolledSecond
+        ensures { λ r. ⌜ flatDue r ≡ secondDue self t ⌝ }
+    {
+        let n = self.tried(is_within(t), true);
+        if n == 0 {
+            let x = formula::run(self);
+            let r = x.value;
+            settle_second(x.refusal, second(r, t))
+        } else {
+            RolledSecond::Refused(n)
+        }
+    }
+
+    // The same piece run the other way.
+    pub fn reversed(self) -> RolledPiece
+        ensures { λ r. ⌜ pieceDue r ≡ reversedDue self ⌝ }
+    {
+        let n = self.tried(true, true);
+        if n == 0 {
+            RolledPiece::Value(formula::reversed(self))
+        } else {
+            RolledPiece::Refused(n)
+        }
+    }
+
+    // The radius of the arc (0 for others), the angle that the piece turns and its length.
+    pub fn measure(self) -> RolledMeasure
+        ensures { λ r. ⌜ measuredDue r ≡ measureDue self ⌝ }
+    {
+        let n = self.tried(true, true);
+        if n == 0 {
+            let x = formula::run(self);
+            let r = x.value;
+            settle_measure(x.refusal, measure_of(r))
+        } else {
+            RolledMeasure::Refused(n)
+        }
+    }
+
+    // Pieces to integrate over: at most 45° each, in the development and about the axis.
+    pub fn quadrature_pieces(self) -> RolledCount
+        ensures { λ r. ⌜ countDue r ≡ quadratureDue self ⌝ }
+    {
+        let n = self.tried(true, true);
+        if n == 0 {
+            let x = formula::run(self);
+            let r = x.value;
+            settle_count(x.refusal, quadrature_pieces(r))
+        } else {
+            RolledCount::Refused(n)
+        }
+    }
+
+    // Chords for drawing the piece at `radius` from the axis, each at most `chord` off.
+    pub fn chords(self, radius: f64, chord: f64) -> RolledCount
+        ensures { λ r. ⌜ countDue r ≡ chordsDue self radius chord ⌝ }
+    {
+        let n = self.tried(is_within(radius) & is_within(chord), !(chord < 0.0));
+        if n == 0 {
+            let x = formula::run(self);
+            let r = x.value;
+            settle_count(x.refusal, chords_of(r, radius, chord))
+        } else {
+            RolledCount::Refused(n)
+        }
+    }
+
+    // Chords of a polyline through the piece in its development, each at most `deviation` off it: 1 without a trace, at least 2 with one.
+    pub fn polyline(self, deviation: f64) -> RolledCount
+        ensures { λ r. ⌜ countDue r ≡ polylineDue self deviation ⌝ }
+    {
+        let n = self.tried(is_within(deviation), 0.0 < deviation);
+        if n == 0 {
+            let x = formula::run(self);
+            let r = x.value;
+            settle_count(x.refusal, polyline_of(r, deviation))
+        } else {
+            RolledCount::Refused(n)
+        }
+    }
+
+    // The least and greatest u and v; of an arc those of the whole circle.
+    pub fn uv_box(self) -> RolledBox
+        ensures { λ r. ⌜ boxDue r ≡ uvBoxDue self ⌝ }
+    {
+        let n = self.tried(true, true);
+        if n == 0 {
+            let x = formula::run(self);
+            let r = x.value;
+            settle_box(x.refusal, uv_box(r))
+        } else {
+            RolledBox::Refused(n)
+        }
+    }
+
+    // The unit normal at q of the wall over the piece, r from the axis: left of the piece's direction.
+    pub fn normal(self, q: Vec2, r: f64) -> Vector
+        ensures { λ v. ⌜ vectorDue v ≡ normalDue self q r ⌝ }
+    {
+        let n = self.tried(is_within2(q) & is_within(r), true);
+        if n == 0 {
+            vectors::settle(formula::normal(self, q, r))
+        } else {
+            Vector::Refused(n)
+        }
+    }
+}
