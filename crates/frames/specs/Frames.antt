@@ -1,4 +1,5 @@
--- Coordinates across the axis of a surface of revolution: at the angle θ the direction is e1·cos θ + e2·sin θ, and e2 = axis × e1.
+-- Coordinates across the axis of a surface of revolution: at the angle θ the direction is e1·cos θ
+-- + e2·sin θ, and e2 = axis × e1.
 use mathlib.Core.Bool.{cond}
 use lib.Dec.{ltb}
 use lib.Ieee.{Float}
@@ -23,8 +24,8 @@ along-y = space zero one zero
 abbrev pub along-z : Vec3
 along-z = space zero zero one
 
--- `min_by` over the three directions, whose cosines are x, y and z: the one before, unless it is greater than the next. `total_cmp` of numbers
--- without their signs is the order of their patterns.
+-- `min_by` over the three directions, whose cosines are x, y and z: the one before, unless it is
+-- greater than the next. `total_cmp` of numbers without their signs is the order of their patterns.
 unfoldable pub leastAxis : Float → Float → Float → Vec3
 leastAxis x y z =
     cond (ltb (size y) (size x)) (cond (ltb (size z) (size y)) along-z along-y)

@@ -20,7 +20,7 @@ finiteSums s = isFinite (s .«six_v») && (isFinite3 (s .moment) && (isFinite (s
 unfoldable pub sumsNine : Integrals → ℕ
 sumsNine s = cond (finiteSums s) 0 NOT-FINITE
 
--- `if d > 0.0 { 1.0 } else { -1.0 }`
+-- the side that the sign of a dot product tells: 1 above 0, else -1
 unfoldable pub side : Float → Float
 side d = cond (lt zero d) one (neg one)
 

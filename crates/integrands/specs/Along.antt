@@ -1,4 +1,5 @@
--- The integral along a path, t ↦ (θ, z, dθ/dt) for t from 0 to 1: −∫ P(θ, z) dθ, where P(θ, z) = ∫₀ᶻ f(θ, s) ds.
+-- The integral along a path, t ↦ (θ, z, dθ/dt) for t from 0 to 1: −∫ P(θ, z) dθ, where P(θ, z) =
+-- ∫₀ᶻ f(θ, s) ds.
 use Prim.Native.Nat.{ℕ}
 use lib.Ieee.{Float}
 use Rattle.checked.specs.Checked.{Checked, _>>=_}

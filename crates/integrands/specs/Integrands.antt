@@ -1,11 +1,12 @@
--- What is integrated over a surface of revolution. At the angle θ and s along the axis the point is x = origin + r(θ)·ρ(s) + axis·s, with
--- ρ(s) = radius + slope·s, and n dA = ρ(s)·(r(θ) − slope·axis) dθ ds.
+-- What is integrated over a surface of revolution. At the angle θ and s along the axis the point is
+-- x = origin + r(θ)·ρ(s) + axis·s, with ρ(s) = radius + slope·s, and n dA = ρ(s)·(r(θ) −
+-- slope·axis) dθ ds.
 use lib.Ieee.{Float}
 use Rattle.checked.specs.Checked.{Checked, first, _>>=_, given, num, _⊕_, _⊖_, _⊗_, _⊘_}
 use Rattle.checked.specs.Numbers.{zero, half, one, two, four, six}
 use Rattle.vectors.specs.declared.Vec3.{Vec3}
 use Rattle.vectors.specs.Vectors.{vec, _⊞_, _⊟_, _⊠_, _⊡_}
-use Rattle.directions.specs.Directions.{sqrtC}
+use Rattle.rounding.specs.Computations.{sqrtC}
 use Rattle.circle.specs.Circle.{sincosC}
 use Rattle.frames.specs.declared.Cone.{Cone}
 use Rattle.frames.specs.Frames.{frameC}
@@ -22,7 +23,7 @@ revolvedC c o = do
   stretch ← sqrtC (num one ⊕ num (c .slope) ⊗ num (c .slope))
   given (record { frame = f; p0 = p0; radius = c .radius; slope = c .slope; stretch = stretch })
 
--- ---- `f(th, s)`
+-- ---- what is integrated, at the angle θ and s along the axis
 -- the direction away from the axis, and the normal: `rv` and `nv`
 unfoldable pub bearingC : Revolved → Float → Checked Bearing
 bearingC v theta = do
@@ -51,7 +52,7 @@ integrandC v theta s = do
   patchC v b s
 
 -- ---- the step of the sums at a node
--- `sum[q] -= w * (f0[q] + 4.0 * f1[q] + f2[q])`
+-- a sum less w times the four parts of Simpson's mean: the first, four of the middle, the last
 unfoldable pub termC : Float → Float → Float → Float → Float → Checked Float
 termC w s a b c = num s ⊖ num w ⊗ (num a ⊕ num four ⊗ num b ⊕ num c)
 
@@ -70,7 +71,7 @@ termsC w s a b c = do
   n ← term3C w (s .«area_vector») (a .«area_vector») (b .«area_vector») (c .«area_vector»)
   given (record { «six_v» = volume; moment = m; area = area; «area_vector» = n })
 
--- `0.5 * h * wgt * dth * z / 6.0`
+-- half the stretch's length, the node's weight, how fast θ turns, z, and Simpson's sixth
 unfoldable pub weightC : Place → Float → Float → Checked Float
 weightC p h wgt = num half ⊗ num h ⊗ num wgt ⊗ num (p .turn) ⊗ num (p .z) ⊘ num six
 

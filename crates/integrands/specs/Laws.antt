@@ -1,4 +1,5 @@
--- The refusal of a node is that of its angle, then that of the new sums: these are finite only where all that they are made of is.
+-- The refusal of a node is that of its angle, then that of the new sums: these are finite only
+-- where all that they are made of is.
 use Prim.Native.Nat.{ℕ, zero, suc}
 use mathlib.Core.Path.{_≡_, refl, _∙_, ap}
 use mathlib.Core.Bool.{Bool, true, false, _&&_}
@@ -12,7 +13,7 @@ use Rattle.rounding.specs.Laws.{rounded}
 use Rattle.vectors.specs.declared.Vec3.{Vec3}
 use Rattle.vectors.specs.Vectors.{isFinite3, nines}
 use Rattle.vectors.specs.Laws.{nines-ok, tells-x, tells-y, tells-z, rules as vectors-rules}
-use Rattle.directions.specs.Directions.{sqrtC}
+use Rattle.rounding.specs.Computations.{sqrtC}
 use Rattle.circle.specs.Circle.{sincosC}
 use Rattle.frames.specs.declared.Cone.{Cone}
 use Rattle.frames.specs.Frames.{frameC}

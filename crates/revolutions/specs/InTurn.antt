@@ -1,6 +1,8 @@
--- Opening a face's sums, adding each of its paths in turn and closing them gives what `revolution` gives over the list of the paths. Where all
--- that is handed in passes its tests the answers are the same, refusals too; and one is accepted only where the other is.
--- (A call can't know what later ones are handed: where a path fails a test, an earlier one may have been refused by a higher number.)
+-- Opening a face's sums, adding each of its paths in turn and closing them gives what `revolution`
+-- gives over the list of the paths. Where all that is handed in passes its tests the answers are
+-- the same, refusals too; and one is accepted only where the other is. (A call can't know what
+-- later ones are handed: where a path fails a test, an earlier one may have been refused by a
+-- higher number.)
 use Prim.Native.Nat.{ℕ, zero, suc}
 use mathlib.Core.Path.{_≡_, refl, sym, _∙_, ap}
 use mathlib.Core.Bool.{Bool, true, false, _&&_}
@@ -23,12 +25,18 @@ use Rattle.integrands.specs.declared.Revolved.{Revolved}
 use Rattle.integrands.specs.Integrands.{revolvedC}
 use Rattle.integrands.specs.Sound.{path-sound}
 use Rattle.arc_paths.specs.ArcPaths.{courseAt, arcPathC}
-use Rattle.revolutions.specs.Revolutions.{Path, arc, pathWithin, liesOn, pathC, sumsC, closeC, revolutionC, every, faceWithin, revolutionDue, openDue, addC, addDue, closeDue, andThen, addedInTurn, inTurn}
+use Rattle.piece_paths.specs.PiecePaths.{driftAt}
+use Rattle.paths.specs.Paths.{piecePathC}
+use Rattle.closings.specs.Closings.{closeC, closeDue}
+use Rattle.handed.specs.Laws.{passing-none}
+use Rattle.face_tests.specs.Laws.{tests-none, accepted as tests-accepted}
+use Rattle.revolutions.specs.Revolutions.{Path, arc, piece, pathWithin, pathNeutral, pathSingle, liesOn, pathC, sumsC, revolutionC, every, faceWithin, revolutionDue, openDue, addC, addDue, andThen, addedInTurn, inTurn}
 
 -- ---- sums stay finite
-each-sound : (w : Revolved) (p : Path) (s : Integrals) → pathC w p s .refusal ≡ 0 → Finite s → Finite (pathC w p s .value)
-unfolding pathC arcPathC
-each-sound w (arc a u v) s e g = path-sound w (courseAt _) _ s (first-none _ _ e .1) g
+each-sound : (v : Revolved) (p : Path) (s : Integrals) → pathC v p s .refusal ≡ 0 → Finite s → Finite (pathC v p s .value)
+unfolding pathC arcPathC piecePathC
+each-sound v (arc a from to) s e g = path-sound v (courseAt _) _ s (first-none _ _ e .1) g
+each-sound v (piece dev from to arc' trace) s e g = path-sound v (driftAt _) _ s (first-none _ _ (first-none _ _ e .1) .1) g
 
 add-sound : (cone : Cone) (o : Vec3) (p : Path) (s : Integrals) → addC cone o p s .refusal ≡ 0 → Finite s → Finite (addC cone o p s .value)
 unfolding addC
@@ -43,16 +51,19 @@ both : (a b : Bool) → (a && b) ≡ true → (a ≡ true) × (b ≡ true)
 both true b h = (refl, h)
 both false b h = absurd (yes h)
 
-passes : {A : Type 0} (n : ℕ) (b : Bool) (rest : Due A) → b ≡ true → unless n b rest ≡ rest
-passes n true rest h = refl
-passes n false rest h = absurd (yes h)
-
 never : {A : Type 0} (n : ℕ) (t : A) → refused n ≡ due t → ⊥
 never n t h = let z : _≡_ {A = ℕ} 0 1 = cc in omega arith
 
 passed : {A : Type 0} (n : ℕ) (b : Bool) (rest : Due A) (t : A) → unless n b rest ≡ due t → (b ≡ true) × (rest ≡ due t)
 passed n true rest t h = (refl, h)
 passed n false rest t h = absurd (never n t h)
+
+-- 1, 2, 3 and 7 of a path, and of every path
+abbrev Fit : Cone → Path → Type 0
+Fit cone p = (pathWithin p ≡ true) × ((pathNeutral p ≡ true) × ((pathSingle p ≡ true) × (liesOn cone p ≡ true)))
+
+abbrev AllFit : Cone → List Path → Type 0
+AllFit cone ps = (every pathWithin ps ≡ true) × ((every pathNeutral ps ≡ true) × ((every pathSingle ps ≡ true) × (every (liesOn cone) ps ≡ true)))
 
 -- ---- one call after the other
 then-settled : {A B : Type 0} (r : ℕ) (a : A) (rest : A → Due B) (m : Checked B) → (r ≡ 0 → rest a ≡ answered m) → andThen (settled r a) rest ≡ settled (first r (m .refusal)) (m .value)
@@ -72,20 +83,22 @@ module _ (cone : Cone) (o : Vec3) where
   each-is (p ∷ ps) = list-once (pathC (revolvedC cone o .value)) (revolvedC cone o .refusal) p ps nothing
 
   module _ (face : faceWithin cone o ≡ true) where
-    add-is : (p : Path) (s : Integrals) → pathWithin p ≡ true → liesOn cone p ≡ true → Finite s → addDue cone o p s ≡ answered (addC cone o p s)
+    add-is : (p : Path) (s : Integrals) → Fit cone p → Finite s → addDue cone o p s ≡ answered (addC cone o p s)
     unfolding addDue
-    add-is p s w l f = simp (face, w, l, is-true (finiteSums s) f)
+    add-is p s t f = passing-none _ _ (tests-none (faceWithin cone o && pathWithin p) (pathNeutral p) (pathSingle p) (finiteSums s) (liesOn cone p) (simp (face, t .0), (t .1 .0, (t .1 .1 .0, (is-true (finiteSums s) f, t .1 .1 .1)))))
 
-    added-are : (ps : List Path) (s : Integrals) → every pathWithin ps ≡ true → every (liesOn cone) ps ≡ true → Finite s → addedInTurn cone o ps s ≡ answered (foldListC (addC cone o) ps s)
+    added-are : (ps : List Path) (s : Integrals) → AllFit cone ps → Finite s → addedInTurn cone o ps s ≡ answered (foldListC (addC cone o) ps s)
     unfolding addedInTurn every foldListC
-    added-are [] s w l f = unfold settled in refl
-    added-are (p ∷ ps) s w l f =
-        let ws = both (pathWithin p) (every pathWithin ps) w in
-        let ls = both (liesOn cone p) (every (liesOn cone) ps) l in
+    added-are [] s t f = unfold settled in refl
+    added-are (p ∷ ps) s t f =
+        let one = both (pathWithin p) (every pathWithin ps) (t .0) in
+        let two = both (pathNeutral p) (every pathNeutral ps) (t .1 .0) in
+        let three = both (pathSingle p) (every pathSingle ps) (t .1 .1 .0) in
+        let seven = both (liesOn cone p) (every (liesOn cone) ps) (t .1 .1 .1) in
         let m = addC cone o p s in
-        ap (λ (d : Due Integrals). andThen d (addedInTurn cone o ps)) (add-is p s (ws .0) (ls .0) f)
+        ap (λ (d : Due Integrals). andThen d (addedInTurn cone o ps)) (add-is p s (one .0, (two .0, (three .0, seven .0))) f)
         ∙ then-settled (m .refusal) (m .value) (addedInTurn cone o ps) (foldListC (addC cone o) ps (m .value))
-        (λ z. added-are ps (m .value) (ws .1) (ls .1) (add-sound cone o p s z f))
+        (λ z. added-are ps (m .value) (one .1, (two .1, (three .1, seven .1))) (add-sound cone o p s z f))
 
     close-is : (s acc : Integrals) → Finite s → finiteSums acc ≡ true → closeDue cone s acc ≡ answered (closeC acc (cone .convex) s)
     unfolding closeDue
@@ -94,13 +107,13 @@ module _ (cone : Cone) (o : Vec3) where
         cone-within : coneWithin cone ≡ true
         cone-within = unfold faceWithin in both (coneWithin cone) (within3 o) face .0
 
-    module _ (ps : List Path) (acc : Integrals) (w : every pathWithin ps ≡ true) (a : finiteSums acc ≡ true) (l : every (liesOn cone) ps ≡ true) where
+    module _ (ps : List Path) (acc : Integrals) (fit : AllFit cone ps) (a : finiteSums acc ≡ true) where
       abbrev sums : Checked Integrals
       sums = foldListC (addC cone o) ps nothing
 
       opened : andThen (openDue cone o) (addedInTurn cone o ps) ≡ answered sums
       unfolding openDue
-      opened = simp face (added-are ps nothing w l nothing-finite)
+      opened = simp face (added-are ps nothing fit nothing-finite)
 
       closed : andThen (answered sums) (λ s. closeDue cone s acc) ≡ settled (first (sums .refusal) (closeC acc (cone .convex) (sums .value) .refusal)) (closeC acc (cone .convex) (sums .value) .value)
       closed = then-settled (sums .refusal) (sums .value) (λ s. closeDue cone s acc) (closeC acc (cone .convex) (sums .value))
@@ -116,20 +129,18 @@ module _ (cone : Cone) (o : Vec3) where
       -- the same answer
       pub same : inTurn cone o ps acc ≡ revolutionDue cone o ps acc
       unfolding revolutionDue
-      same = turned ∙ sym (simp (face, w, a, l))
+      same = turned ∙ sym (passing-none _ _ (tests-none (faceWithin cone o && every pathWithin ps) (every pathNeutral ps) (every pathSingle ps) (finiteSums acc) (every (liesOn cone) ps) (simp (face, fit .0), (fit .1 .0, (fit .1 .1 .0, (a, fit .1 .1 .1))))))
 
   -- ---- what is accepted passes its tests
-  added-due : (ps : List Path) (s t : Integrals) → addedInTurn cone o ps s ≡ due t → (every pathWithin ps ≡ true) × (every (liesOn cone) ps ≡ true)
+  added-due : (ps : List Path) (s t : Integrals) → addedInTurn cone o ps s ≡ due t → AllFit cone ps
   unfolding addedInTurn every addDue
-  added-due [] s t h = (refl, refl)
+  added-due [] s t h = (refl, (refl, (refl, refl)))
   added-due (p ∷ ps) s t h =
-      then-due (addDue cone o p s) (addedInTurn cone o ps) t ((every pathWithin (p ∷ ps) ≡ true) × (every (liesOn cone) (p ∷ ps) ≡ true)) h
+      then-due (addDue cone o p s) (addedInTurn cone o ps) t (AllFit cone (p ∷ ps)) h
       (λ m e r.
-      let one = passed _ (faceWithin cone o && pathWithin p) _ m e in
-      let four = passed _ (finiteSums s) _ m (one .1) in
-      let seven = passed _ (liesOn cone p) _ m (four .1) in
+      let this = tests-accepted _ m (faceWithin cone o && pathWithin p) (pathNeutral p) (pathSingle p) (finiteSums s) (liesOn cone p) e .0 in
       let rest = added-due ps m t r in
-      (simp (both (faceWithin cone o) (pathWithin p) (one .0) .1, rest .0), simp (seven .0, rest .1)))
+      (simp (both (faceWithin cone o) (pathWithin p) (this .0) .1, rest .0), (simp (this .1 .0, rest .1 .0), (simp (this .1 .1 .0, rest .1 .1 .0), simp (this .1 .1 .1 .1, rest .1 .1 .1)))))
 
   -- the calls are accepted only where `revolution` is, with the same sums
   pub accepted : (ps : List Path) (acc t : Integrals) → inTurn cone o ps acc ≡ due t → revolutionDue cone o ps acc ≡ due t
@@ -140,16 +151,13 @@ module _ (cone : Cone) (o : Vec3) where
       then-due (openDue cone o) (addedInTurn cone o ps) s (revolutionDue cone o ps acc ≡ due t) e
       (λ n f g.
       let face = passed _ (faceWithin cone o) _ n f .0 in
-      let tests = added-due ps n s g in
       let four = passed _ (finiteSums acc && finiteSums s) _ t (passed _ (coneWithin cone) _ t c .1) .0 in
-      sym (same face ps acc (tests .0) (both (finiteSums acc) (finiteSums s) four .0) (tests .1)) ∙ h))
+      sym (same face ps acc (added-due ps n s g) (both (finiteSums acc) (finiteSums s) four .0)) ∙ h))
 
   -- and `revolution` only where they are
   pub accepts : (ps : List Path) (acc t : Integrals) → revolutionDue cone o ps acc ≡ due t → inTurn cone o ps acc ≡ due t
   unfolding revolutionDue
   accepts ps acc t h =
-      let one = passed _ (faceWithin cone o && every pathWithin ps) _ t h in
-      let four = passed _ (finiteSums acc) _ t (one .1) in
-      let seven = passed _ (every (liesOn cone) ps) _ t (four .1) in
-      let ones = both (faceWithin cone o) (every pathWithin ps) (one .0) in
-      same (ones .0) ps acc (ones .1) (four .0) (seven .0) ∙ h
+      let all = tests-accepted _ t (faceWithin cone o && every pathWithin ps) (every pathNeutral ps) (every pathSingle ps) (finiteSums acc) (every (liesOn cone) ps) h .0 in
+      let ones = both (faceWithin cone o) (every pathWithin ps) (all .0) in
+      same (ones .0) ps acc (ones .1, (all .1 .0, (all .1 .1 .0, all .1 .1 .1 .1))) (all .1 .1 .1 .0) ∙ h

@@ -1,14 +1,21 @@
--- Integrals of a face on a surface of revolution: `revolution` over the list of its paths, and the calls that stand in its place.
-use mathlib.Core.Bool.{Bool, true, cond, _&&_}
+-- Integrals of a face on a surface of revolution: `revolution` over the list of its paths, and the
+-- calls that stand in its place.
+use mathlib.Core.Bool.{Bool, true, not, _&&_}
 use mathlib.Core.List.{List, [], _∷_}
-use lib.Ieee.{Float, neg}
-use Rattle.checked.specs.Refusals.{OUT-OF-RANGE, BAD-BOX-OR-SUMS, PIECE-ON-CONE}
-use Rattle.checked.specs.Checked.{Checked, first, _>>=_, given, num, _⊕_, _⊗_, Due, due, refused, answered, unless}
-use Rattle.checked.specs.Numbers.{one}
+use lib.Ieee.{Float, lt, eq}
+use Rattle.checked.specs.Refusals.{OUT-OF-RANGE}
+use Rattle.checked.specs.Checked.{Checked, first, _>>=_, given, Due, due, refused, answered, unless}
+use Rattle.checked.specs.Numbers.{zero}
+use Rattle.vectors.specs.declared.Vec2.{Vec2}
 use Rattle.vectors.specs.declared.Vec3.{Vec3}
-use Rattle.vectors.specs.Vectors.{within3, vec, _⊞_}
+use Rattle.vectors.specs.Vectors.{within2, within3}
 use Rattle.arcs.specs.declared.Arc.{Arc}
-use Rattle.sweeps.specs.Sweeps.{circleWithin}
+use Rattle.sweeps.specs.Sweeps.{endsWithin}
+use Rattle.developments.specs.declared.Development.{Development}
+use Rattle.developments.specs.Developments.{developmentWithin}
+use Rattle.runs.specs.declared.PieceArc.{PieceArc}
+use Rattle.runs.specs.declared.PieceTrace.{PieceTrace}
+use Rattle.piece_parts.specs.Tests.{arcWithin, followedWithin, both}
 use Rattle.frames.specs.declared.Cone.{Cone}
 use Rattle.frames.specs.Entries.{coneWithin}
 use Rattle.integrals.specs.declared.Integrals.{Integrals}
@@ -17,44 +24,51 @@ use Rattle.loops.specs.Lists.{foldListC}
 use Rattle.integrands.specs.declared.Revolved.{Revolved}
 use Rattle.integrands.specs.Integrands.{revolvedC}
 use Rattle.arc_paths.specs.ArcPaths.{arcPathC}
+use Rattle.paths.specs.Paths.{piecePathC}
+use Rattle.handed.specs.Handed.{passing}
+use Rattle.face_tests.specs.Tests.{tests}
+use Rattle.closings.specs.Closings.{closeC, closeDue}
 
--- A curve of the face's outline, as its loop runs it: an arc about the axis from one point to another. A piece of a development will be
--- the other case.
+-- A curve of the face's outline, as its loop runs it: an arc about the axis from one point to
+-- another, or a piece of a development from one place to another, with its arc and its trace.
 pub data Path : Type 0 where
   arc : Arc → Vec3 → Vec3 → Path
+  piece : Development → Vec2 → Vec2 → PieceArc → PieceTrace → Path
 
--- its numbers pass the test of what is handed in
+-- ---- what is tried of a path, by number
+-- 1: its numbers pass the test of what is handed in
 unfoldable pub pathWithin : Path → Bool
-pathWithin (arc a u v) = circleWithin (a .center) (a .axis) (a .radius) && (within3 u && within3 v)
+pathWithin (arc a u v) = endsWithin (a .center) (a .axis) (a .radius) u v
+pathWithin (piece dev from to arc' trace) = developmentWithin dev && (within2 from && (within2 to && (arcWithin arc' && followedWithin trace)))
 
--- number 7: a piece of a development lies on no cone whose slope isn't 0
+-- 2: its neutral radius, where it has one, is above 0
+unfoldable pub pathNeutral : Path → Bool
+pathNeutral (arc a u v) = true
+pathNeutral (piece dev from to arc' trace) = lt zero (dev .neutral)
+
+-- 3: it has no arc together with a trace
+unfoldable pub pathSingle : Path → Bool
+pathSingle (arc a u v) = true
+pathSingle (piece dev from to arc' trace) = not (both arc' trace)
+
+-- 7: a piece of a development lies on no cone whose slope is not 0; -0 is 0
 unfoldable pub liesOn : Cone → Path → Bool
 liesOn cone (arc a u v) = true
+liesOn cone (piece dev from to arc' trace) = eq (cone .slope) zero
 
 -- the running sums after the path
 unfoldable pub pathC : Revolved → Path → Integrals → Checked Integrals
-pathC w (arc a u v) s = arcPathC w a u v s
+pathC v (arc a from to) s = arcPathC v a from to s
+pathC v (piece dev from to arc' trace) s = piecePathC v dev from to arc' trace s
 
 -- ---- the Rust's `revolution`
--- the sums of all paths: the surface is worked out before the first one, and where there is none nobody reads it
+-- the sums of all paths: the surface is worked out before the first one, and where there is none
+-- nobody reads it
 unfoldable pub sumsC : Cone → Vec3 → List Path → Checked Integrals
 sumsC cone o [] = given nothing
 sumsC cone o (p ∷ ps) = do
-  w ← revolvedC cone o
-  foldListC (pathC w) (p ∷ ps) nothing
-
--- `if c.convex { 1.0 } else { -1.0 }`
-unfoldable pub sigma : Bool → Float
-sigma convex = cond convex one (neg one)
-
--- what is added to the sums of a body
-unfoldable pub closeC : Integrals → Bool → Integrals → Checked Integrals
-closeC acc convex s = do
-  area ← num (acc .area) ⊕ num (sigma convex) ⊗ num (s .area)
-  volume ← num (acc .«six_v») ⊕ num (s .«six_v»)
-  moment ← vec (acc .moment) ⊞ vec (s .moment)
-  vector ← vec (acc .«area_vector») ⊞ vec (s .«area_vector»)
-  given (record { «six_v» = volume; moment = moment; area = area; «area_vector» = vector })
+  v ← revolvedC cone o
+  foldListC (pathC v) (p ∷ ps) nothing
 
 unfoldable pub revolutionC : Cone → Vec3 → List Path → Integrals → Checked Integrals
 revolutionC cone o ps acc = do
@@ -73,33 +87,27 @@ faceWithin cone o = coneWithin cone && within3 o
 -- what it is due: the tests of all that is handed in, the lowest number first, then the computation
 unfoldable pub revolutionDue : Cone → Vec3 → List Path → Integrals → Due Integrals
 revolutionDue cone o ps acc =
-    unless OUT-OF-RANGE (faceWithin cone o && every pathWithin ps)
-    (unless BAD-BOX-OR-SUMS (finiteSums acc)
-    (unless PIECE-ON-CONE (every (liesOn cone) ps)
-    (answered (revolutionC cone o ps acc))))
+    passing
+    (tests (faceWithin cone o && every pathWithin ps) (every pathNeutral ps) (every pathSingle ps) (finiteSums acc) (every (liesOn cone) ps))
+    (answered (revolutionC cone o ps acc))
 
 -- ---- the calls in its place
+-- opening: nothing is summed yet
 unfoldable pub openDue : Cone → Vec3 → Due Integrals
 openDue cone o = unless OUT-OF-RANGE (faceWithin cone o) (due nothing)
 
 -- the running sums after one path, whose call works out the surface for itself
 unfoldable pub addC : Cone → Vec3 → Path → Integrals → Checked Integrals
 addC cone o p s = do
-  w ← revolvedC cone o
-  pathC w p s
+  v ← revolvedC cone o
+  pathC v p s
 
+-- adding a path
 unfoldable pub addDue : Cone → Vec3 → Path → Integrals → Due Integrals
 addDue cone o p s =
-    unless OUT-OF-RANGE (faceWithin cone o && pathWithin p)
-    (unless BAD-BOX-OR-SUMS (finiteSums s)
-    (unless PIECE-ON-CONE (liesOn cone p)
-    (answered (addC cone o p s))))
-
-unfoldable pub closeDue : Cone → Integrals → Integrals → Due Integrals
-closeDue cone s acc =
-    unless OUT-OF-RANGE (coneWithin cone)
-    (unless BAD-BOX-OR-SUMS (finiteSums acc && finiteSums s)
-    (answered (closeC acc (cone .convex) s)))
+    passing
+    (tests (faceWithin cone o && pathWithin p) (pathNeutral p) (pathSingle p) (finiteSums s) (liesOn cone p))
+    (answered (addC cone o p s))
 
 -- one call, then the next with what it gave, unless it was refused
 abbrev pub andThen : {A B : Type 0} → Due A → (A → Due B) → Due B

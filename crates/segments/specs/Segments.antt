@@ -1,5 +1,6 @@
--- The correction of a plane face's polygon for an arc from u to v: the slice of the disk between the chord and the arc, added where the arc
--- bulges out of the face and taken away where it bulges in.
+-- The correction of a plane face's polygon for an arc from u to v: the slice of the disk between
+-- the chord and the arc, added where the arc bulges out of the face and taken away where it bulges
+-- in.
 use mathlib.Core.Bool.{cond}
 use lib.Ieee.{Float, eq}
 use Rattle.checked.specs.Checked.{Checked, _>>=_, given, num, _⊕_, _⊖_, _⊗_, _⊘_}
@@ -18,7 +19,7 @@ use Rattle.segments.specs.declared.Slice.{Slice}
 abbrev pub about : Arc → Vec3 → Arc
 about arc k = record { center = arc .center; axis = k; radius = arc .radius }
 
--- the slice's turn φ, φ - sin φ, and its area: `0.5 * r * r * (phi - sin(phi)) * if k.dot(n) > 0.0 { 1.0 } else { -1.0 }`
+-- the slice's turn φ, φ − sin φ, and its area: r²/2 times that, above 0 where k and n are on one side
 unfoldable pub sliceC : Arc → Vec3 → Vec3 → Vec3 → Checked Slice
 sliceC turned u v n = do
   phi ← sweepC (turned .center) (turned .axis) u v
@@ -38,7 +39,8 @@ centroidC turned u s = do
   h ← sinC t
   vec (turned .center) ⊞ vec mid ⊠ (num four ⊗ num h ⊗ num h ⊗ num h ⊘ (num three ⊗ num (s .rest)))
 
--- the sums with the slice added: of the cone from o over it six times the volume and the moment, and its area vector, but not its area
+-- the sums with the slice added: of the cone from o over it six times the volume and the moment,
+-- and its area vector, but not its area
 unfoldable pub addedC : Integrals → Vec3 → Vec3 → Vec3 → Float → Vec3 → Checked Integrals
 addedC acc u n o area c = do
   d ← (vec u ⊟ vec o) ⊡ vec n

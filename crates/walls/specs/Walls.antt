@@ -1,11 +1,12 @@
--- The integrals of the wall of a cut at one place along it. The wall's own coordinates are (t, r), with n dA = (∂r × ∂t) dt dr.
+-- The integrals of the wall of a cut at one place along it. The wall's own coordinates are (t, r),
+-- with n dA = (∂r × ∂t) dt dr.
 use lib.Ieee.{Float}
 use Rattle.checked.specs.Checked.{Checked, _>>=_, given, num, _⊕_, _⊖_, _⊗_}
 use Rattle.checked.specs.Numbers.{literal, half, two, six}
 use Rattle.vectors.specs.declared.Vec2.{Vec2}
 use Rattle.vectors.specs.declared.Vec3.{Vec3}
 use Rattle.vectors.specs.Vectors.{vec, _⊞_, _⊟_, _⊠_, _⊡_, _⨯_}
-use Rattle.directions.specs.Directions.{sqrtC}
+use Rattle.rounding.specs.Computations.{sqrtC}
 use Rattle.rolls.specs.Rolls as rolls
 use Rattle.integrals.specs.declared.Integrals.{Integrals}
 use Rattle.integrals.specs.Gauss.{stretchC}
@@ -33,7 +34,7 @@ addedC x n s = do
   vector ← vec (s .«area_vector») ⊞ vec n
   given (record { «six_v» = volume; moment = moment; area = area; «area_vector» = vector })
 
--- `radial.cross(w.dev.along(p, d, r)) * (0.25 * h * wt * hr * wr)`, where `moves` is how the point at r moves
+-- the normal at r times the area that the node stands for, where `moves` is how the point at r moves
 unfoldable pub normalC : Strip → Vec3 → (Float → Checked Vec3) → Float → Float → Float → Float → Checked Vec3
 normalC v radial moves h wt wr r = vec radial ⨯ moves r ⊠ (num quarter ⊗ num h ⊗ num wt ⊗ num (v .hr) ⊗ num wr)
 
