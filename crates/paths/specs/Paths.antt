@@ -7,7 +7,7 @@ use Rattle.developments.specs.declared.Development.{Development}
 use Rattle.runs.specs.declared.PieceArc.{PieceArc}
 use Rattle.runs.specs.declared.PieceTrace.{PieceTrace}
 use Rattle.runs.specs.Runs.{runC}
-use Rattle.quadratures.specs.Quadratures.{quadratureC}
+use Rattle.run_counts.specs.Counts.{quadratureC}
 use Rattle.arcs.specs.declared.Arc.{Arc}
 use Rattle.frames.specs.declared.Cone.{Cone}
 use Rattle.integrals.specs.declared.Integrals.{Integrals}

@@ -25,7 +25,7 @@ use integrands::revolve;
 use piece_paths::Drift;
 use piece_paths::drift_at;
 use piece_paths::drift_of;
-use quadratures::quadrature_pieces;
+use run_counts::quadrature_pieces;
 use runs::PieceArc;
 use runs::PieceTrace;
 use runs::run_of;
