@@ -1,0 +1,2 @@
+pub mod CutWalls
+pub mod Entries
