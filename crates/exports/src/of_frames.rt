@@ -18,7 +18,7 @@ pub extern "C" fn jr_cone_frame(c: &[f64; 8], out: &mut [f64; 12]) -> u32
     ensures out { λ _. ⌜ now (out .exit) ≡ after ofFrame (now (out .entry)) (Frames.frameDue (cone (now (c .entry)) true)) ⌝ }
 {
     let k = cone_of(c, true);
-    store_frame(k.frame(), out)
+    store_frame(k.own_frame(), out)
 }
 
 #[no_mangle]
