@@ -15,7 +15,7 @@ use Rattle.rounding.specs.Whole.{ceil}
 use Rattle.reduction.specs.Reduction.{secondRound, medium, toFive, toNine, remPio2}
 use Rattle.circle.specs.Circle.{turnedSines, sines, sinesOrZeros}
 use Rattle.arccosine.specs.Arccosine.{acosFar, acosNear}
-use Rattle.roots.specs.Roots.{acos}
+use Rattle.roots.specs.Roots.{acos, hypot}
 use Rattle.chords.specs.Chords.{quotientC, chordsC, clamped, perTurnC}
 use Rattle.counts.specs.Counts.{limitedC, countC}
 use Rattle.rows.specs.Rows.{upTo}
@@ -50,6 +50,20 @@ use Rattle.meets.specs.Meets.{pipeC, heightC}
 use Rattle.meets.specs.Entries.{turnWithin, meetWithin}
 use Rattle.traces.specs.declared.Trace.the-variants as trace
 use Rattle.traces.specs.Traces.{some, meetHeightC, meetC, vC, traceWithin, vDue}
+use Rattle.hypotenuse.specs.Hypotenuse as hypotenuse
+use Rattle.developments.specs.declared.Development.{Development}
+use Rattle.developments.specs.Developments.{developmentWithin}
+use Rattle.runs.specs.declared.PieceArc.the-variants as piece-arc
+use Rattle.runs.specs.declared.PieceTrace.the-variants as piece-trace
+use Rattle.runs.specs.Runs as runs
+use Rattle.run_points.specs.Points as run-points
+use Rattle.measures.specs.Measures.{distanceC}
+use Rattle.run_boxes.specs.Boxes as run-boxes
+use Rattle.run_counts.specs.Counts.{steepC, offC, waveLineC, polylineC}
+use Rattle.piece_parts.specs.Tests.{arcWithin, followedWithin, isTraced, both, handedPiece}
+use Rattle.pieces.specs.declared.Rolled.{Rolled}
+use Rattle.pieces.specs.Pieces.{runC}
+use Rattle.pieces.specs.Entries as pieces
 use Rattle.decimals.specs.Thousandths.{signed as signedWhole, thousandths}
 use Rattle.decimals.specs.Digits.{spelled, digits, numeral}
 use Rattle.edge_lines.specs.Lines.{bytes, spaced, corner, emptyLine, refusedLine, boxLine}
@@ -72,6 +86,12 @@ pub data Case : Type 0 where
   waves : Wave → Float → Float → Float → Float → Float → Case
   -- v of a meet at u for a neutral radius
   meets : Meet → Float → Float → Float → Case
+  -- the point of a piece at t, and its derivative
+  places : Rolled → Float → Vec2 → Vec2 → Case
+  -- the least and the greatest u and v of a piece
+  spans : Rolled → Vec2 → Vec2 → Case
+  -- how many chords a polyline through a piece has, for a deviation
+  polylines : Rolled → Float → ℕ → Case
   -- the line that is printed of a file
   prints : List ℕ → String → Case
 
@@ -89,6 +109,9 @@ Holds (boxed arc from to low high) = extendDue arc from to empty ≡ due (record
 Holds (turns arc a b angle) = turnDue arc a b ≡ due angle
 Holds (waves w u n v slope bend) = atDue w u n ≡ due (record { v = v; slope = slope; bend = bend })
 Holds (meets m u n v) = vDue (trace.Meet m) u n ≡ due (some v)
+Holds (places p t at d) = pieces.atDue p t ≡ due (record { p = at; d = d })
+Holds (spans p low high) = pieces.uvBoxDue p ≡ due (record { low = low; high = high })
+Holds (polylines p deviation n) = pieces.polylineDue p deviation ≡ due n
 Holds (prints file line) = lineOf file ≡ bytes line
 
 abbrev pub All : List Case → Type 0
@@ -136,6 +159,23 @@ swing = record { a = two; b = three; c = zero }
 abbrev main : Meet
 main = record { origin = space zero zero (float 20); axis = space one zero zero; radius = float 10; own = one; turn = turn.Without }
 
+-- a development around z, of the neutral radius 10; in it a piece straight on, one about the origin, and one along a wave of no amplitude
+abbrev sheet : Development
+sheet = record { origin = origin; axis = space zero zero one; start = space one zero zero; neutral = float 10 }
+
+abbrev straight : Rolled
+straight = record { dev = sheet; from = plane zero zero; to = plane (float 8) (float 4); arc = piece-arc.Without; trace = piece-trace.Without }
+
+abbrev bow : Rolled
+bow = record { dev = sheet; from = plane five zero; to = plane zero five; arc = piece-arc.With (record { center = plane zero zero; ccw = true }); trace = piece-trace.Without }
+
+abbrev level : Rolled
+level = record { dev = sheet; from = plane zero zero; to = plane (float 8) zero; arc = piece-arc.Without; trace = piece-trace.With (trace.Wave (record { a = zero; b = zero; c = zero })) }
+
+-- 0.25
+abbrev quarter : Float
+quarter = ofBits binary64 0x3fd0_0000_0000_0000
+
 -- ---- an edge file
 -- n as k bytes, low byte first
 unfoldable inBytes : ℕ → ℕ → List ℕ
@@ -175,9 +215,13 @@ cases =
     ∷ turns clockwise (plane five zero) (plane five zero) (neg fullTurn)
     ∷ waves swing zero (float 10) five zero (div binary64 (neg three) (float 100))
     ∷ meets main zero five (float 10)
+    ∷ places straight quarter (plane two one) (plane (float 8) (float 4))
+    ∷ polylines straight one 1
+    ∷ spans bow (plane (neg five) (neg five)) (plane five five)
+    ∷ polylines level one 2
     ∷ []
 
 -- every case computes
 pub all-hold : All cases
-unfolding cases add sub mul div neg lt le eq isNan ofBits toBits first isFinite nine within settled fabs signed choose sqrt reduced atan isOne ratioAngle angle atan2 negative least greatest within2 within3 plusC minusC timesC negC crossC dotC lesser greater widened widenedBy numbers free boxCall lengthC acrossC aheadC backC apartC turnC turnDue sweepFromC sweepC sideC takenC bothC extremesC pointsC circleWithin endsWithin chordWithin sweepDue extendDue reversedC reversedDue inBytes number point arcRecord signedWhole thousandths spelled digits numeral bytes spaced corner emptyLine refusedLine boxLine lowFirst numberAt pointAt tagged headOf kindOf edgeOf recordOf sizeOf next printed ended lineFrom lineOf ofInt toUnsigned toSigned eight ceil secondRound medium toFive toNine remPio2 turnedSines sines sinesOrZeros acosFar acosNear acos quotientC chordsC clamped perTurnC limitedC countC upTo spokeC turnedC atC cutC innerC innersDue innerPointsDue handed passing jetC waveWithin atDue ownC lesserC reachC zC pipeC heightC turnWithin meetWithin meetHeightC meetC vC traceWithin vDue
-all-hold = (refl, (refl, (refl, (refl, (refl, (refl, (refl, (refl, (refl, (refl, (refl, (refl, (refl, (refl, (refl, tt)))))))))))))))
+unfolding cases add sub mul div neg lt le eq isNan ofBits toBits first isFinite nine within settled fabs signed choose sqrt reduced atan isOne ratioAngle angle atan2 negative least greatest within2 within3 plusC minusC timesC negC crossC dotC lesser greater widened widenedBy numbers free boxCall lengthC acrossC aheadC backC apartC turnC turnDue sweepFromC sweepC sideC takenC bothC extremesC pointsC circleWithin endsWithin chordWithin sweepDue extendDue reversedC reversedDue inBytes number point arcRecord signedWhole thousandths spelled digits numeral bytes spaced corner emptyLine refusedLine boxLine lowFirst numberAt pointAt tagged headOf kindOf edgeOf recordOf sizeOf next printed ended lineFrom lineOf ofInt toUnsigned toSigned eight ceil secondRound medium toFive toNine remPio2 turnedSines sines sinesOrZeros acosFar acosNear acos quotientC chordsC clamped perTurnC limitedC countC upTo spokeC turnedC atC cutC innerC innersDue innerPointsDue handed passing jetC waveWithin atDue ownC lesserC reachC zC pipeC heightC turnWithin meetWithin meetHeightC meetC vC traceWithin vDue hypotenuse.greater hypotenuse.lesser hypotenuse.hypotOrdered hypot developmentWithin runs.tracedC runs.untraced runs.wayC runs.runC run-points.straightC run-points.atC distanceC run-boxes.ends run-boxes.arcC run-boxes.boxC steepC offC waveLineC polylineC arcWithin followedWithin isTraced both handedPiece runC pieces.pieceWithin pieces.tests pieces.atDue pieces.uvBoxDue pieces.polylineDue
+all-hold = (refl, (refl, (refl, (refl, (refl, (refl, (refl, (refl, (refl, (refl, (refl, (refl, (refl, (refl, (refl, (refl, (refl, (refl, (refl, tt)))))))))))))))))))
