@@ -1,0 +1,39 @@
+use borrow.Author.Needs.{needs}
+use Rattle.curves.specs.Curves.{arcOf}
+use Rattle.curves.specs.Entries.{arcDue}
+use Rattle.handed.specs.Laws.{passing-none, passing-some}
+use mathlib.Core.Path.{sym}
+use Rattle.curves.proofs.Curve.arc.Statement.{statement}
+use Rattle.curves.proofs.Curve.arc.Tie as tie
+
+tried-requires : tie.Need-tried-requires
+tried-requires c κs = search needs
+
+enum-known-self : tie.Need-enum-known-self
+enum-known-self c = search needs
+
+enum-told : tie.Need-enum-told
+enum-told c = search needs
+
+returns : tie.Need-returns
+unfolding arcDue arcOf
+returns c = simp (c .before .before .before .if1 .taken, passing-none, ← c .before .before .before .before .tried .ensures) (simp (c .before .self .given .1))
+
+returns-2 : tie.Need-returns-2
+unfolding arcDue arcOf
+returns-2 c = simp (c .before .before .if1 .taken, passing-none, ← c .before .before .before .tried .ensures) (simp (c .enum-told .given .1))
+
+returns-3 : tie.Need-returns-3
+unfolding arcDue arcOf
+returns-3 c = simp (← c .before .tried .ensures) (sym (passing-some _ _ (c .if1 .left)))
+
+pub arc-spec : {M : Type 1} → statement M
+arc-spec =
+    tie.close
+    (tie.spec
+    tried-requires
+    enum-known-self
+    enum-told
+    returns
+    returns-2
+    returns-3)

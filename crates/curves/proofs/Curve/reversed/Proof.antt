@@ -1,0 +1,33 @@
+use borrow.Author.Needs.{needs}
+use Rattle.curves.specs.Entries.{reversedDue}
+use Rattle.handed.specs.Laws.{passing-none, passing-some}
+use mathlib.Core.Path.{sym}
+use Rattle.curves.proofs.Curve.reversed.Statement.{statement}
+use Rattle.curves.proofs.Curve.reversed.Tie as tie
+
+tried-requires : tie.Need-tried-requires
+tried-requires c κs = search needs
+
+reversed-requires : tie.Need-reversed-requires
+reversed-requires c κs = search needs
+
+settle-requires : tie.Need-settle-requires
+settle-requires c κs = search needs
+
+returns : tie.Need-returns
+unfolding reversedDue
+returns c = simp (c .settle .ensures, c .before .reversed .ensures .0, c .before .reversed .ensures .1, c .before .before .if1 .taken, passing-none, ← c .before .before .before .tried .ensures)
+
+returns-2 : tie.Need-returns-2
+unfolding reversedDue
+returns-2 c = simp (← c .before .tried .ensures) (sym (passing-some _ _ (c .if1 .left)))
+
+pub reversed-spec : {M : Type 1} → statement M
+reversed-spec =
+    tie.close
+    (tie.spec
+    tried-requires
+    reversed-requires
+    settle-requires
+    returns
+    returns-2)

@@ -1,0 +1,3 @@
+pub mod Curves
+pub mod Entries
+pub mod Laws

@@ -1,0 +1,148 @@
+// A curve in space: what a program may call is here, the formulas that choose between arc and piece in `formula`.
+ghost use mathlib.Core.Path.{_≡_};
+ghost use Rattle.checked.specs.Checked.{settled};
+ghost use Rattle.boxes.specs.Boxes.{widenedDue, outcome};
+ghost use Rattle.curves.specs.Entries.{curveDue, curveArcDue, tests, reversedDue, movedDue, arcDue, extendDue};
+use arcs::Arc;
+use boxes::Bounds;
+use boxes::CheckedBounds;
+use boxes::Outcome;
+use boxes::Widened;
+use checked::BAD_BOX_OR_SUMS;
+use checked::is_within;
+use curve_parts::tried_arc;
+use motions::Rigid;
+use motions::is_within_rigid;
+use pieces::Rolled;
+use vectors::Vec3;
+use vectors::is_within3;
+
+pub mod formula;
+
+// A piece of a development at `radius` from its axis.
+pub struct RolledAt {
+    pub piece: Rolled,
+    pub radius: f64,
+}
+
+pub enum Curve {
+    Arc(Arc),
+    Rolled(RolledAt),
+}
+
+// A curve, with the refusal that its computation met first; 0 is none.
+pub struct CheckedCurve {
+    pub value: Curve,
+    pub refusal: u8,
+}
+
+// The answer of an entry whose result is a curve.
+pub enum CurveAnswer {
+    Value(Curve),
+    Refused(u8),
+}
+
+// The answer of `arc`: nothing for a piece.
+pub enum CurveArc {
+    Value(Arc),
+    Nothing,
+    Refused(u8),
+}
+
+// The curve, or its refusal where there is one.
+fn settle(c: CheckedCurve) -> CurveAnswer
+    ensures { λ r. ⌜ curveDue r ≡ settled (c .refusal) (c .value) ⌝ }
+{
+    let r = c.refusal;
+    let v = c.value;
+    if r == 0 {
+        CurveAnswer::Value(v)
+    } else {
+        CurveAnswer::Refused(r)
+    }
+}
+
+impl Curve {
+    // The number of the test of what is handed in that fails first, 0 for none.
+    pub fn tried(self, others: bool, tolerable: bool) -> u8
+        ensures { λ r. ⌜ r ≡ tests self others tolerable ⌝ }
+    {
+        match self {
+            Curve::Arc(a) => tried_arc(a, others, tolerable),
+            Curve::Rolled(w) => {
+                let p = w.piece;
+                p.tried(is_within(w.radius) & others, tolerable)
+            }
+        }
+    }
+
+    // The same curve run the other way.
+    pub fn reversed(self) -> CurveAnswer
+        ensures { λ r. ⌜ curveDue r ≡ reversedDue self ⌝ }
+    {
+        let n = self.tried(true, true);
+        if n == 0 {
+            settle(formula::reversed(self))
+        } else {
+            CurveAnswer::Refused(n)
+        }
+    }
+
+    // The same curve moved by m.
+    pub fn moved(self, m: Rigid) -> CurveAnswer
+        ensures { λ r. ⌜ curveDue r ≡ movedDue self m ⌝ }
+    {
+        let n = self.tried(is_within_rigid(m), true);
+        if n == 0 {
+            settle(formula::moved(self, m))
+        } else {
+            CurveAnswer::Refused(n)
+        }
+    }
+
+    // The arc that the curve is, where it is one.
+    pub fn arc(self) -> CurveArc
+        ensures { λ r. ⌜ curveArcDue r ≡ arcDue self ⌝ }
+    {
+        let n = self.tried(true, true);
+        if n == 0 {
+            match self {
+                Curve::Arc(a) => CurveArc::Value(a),
+                Curve::Rolled(_) => CurveArc::Nothing,
+            }
+        } else {
+            CurveArc::Refused(n)
+        }
+    }
+
+    // The box widened by the curve from one point to another; a piece has its own ends.
+    pub fn extended(self, from: Vec3, to: Vec3, bounds: Bounds) -> Widened
+        ensures { λ r. ⌜ widenedDue r ≡ extendDue self from to bounds ⌝ }
+    {
+        let n = self.tried(is_within3(from) & is_within3(to), true);
+        if n == 0 {
+            if bounds.is_free() {
+                boxes::settle(formula::extended(
+                    self,
+                    from,
+                    to,
+                    CheckedBounds {
+                        refusal: 0,
+                        value: bounds,
+                    },
+                ))
+            } else {
+                Widened::Refused(BAD_BOX_OR_SUMS)
+            }
+        } else {
+            Widened::Refused(n)
+        }
+    }
+
+    // What is left of a box after the call, and the number that it answers.
+    pub fn outcome(self, from: Vec3, to: Vec3, bounds: Bounds) -> Outcome
+        ensures { λ r. ⌜ r ≡ outcome bounds (extendDue self from to bounds) ⌝ }
+    {
+        boxes::after(bounds, self.extended(from, to, bounds))
+    }
+}
