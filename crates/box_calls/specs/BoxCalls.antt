@@ -12,19 +12,27 @@ use Rattle.boxes.specs.Demand3.{Met, SameAccepted, SameBox, run}
 use Rattle.extremes.specs.Sound.{points-sound}
 use Rattle.arcs.specs.declared.Arc.{Arc}
 use Rattle.arcs.specs.Entries as arcs
+use Rattle.curves.specs.declared.Curve.{Curve}
+use Rattle.curves.specs.Curves.{pointsC}
+use Rattle.curves.specs.Entries as curves
+use Rattle.curves.specs.Laws as curves-laws
 
 -- what a box call is handed, the box apart
 pub data Edge : Type 0 where
   -- `Arc::extend_bounds`: an arc and its two ends
   ArcEdge : Arc → Vec3 → Vec3 → Edge
+  -- `Curve::extend_bounds`: a curve, an arc or a piece, and two ends
+  CurveEdge : Curve → Vec3 → Vec3 → Edge
 
 -- the tests of what was handed in
 abbrev pub handed : Edge → Due Unit
 handed (ArcEdge arc from to) = arcs.handed arc from to
+handed (CurveEdge curve from to) = curves.handed curve from to
 
 -- the ends and extreme points, as they are worked out
 abbrev pub points : Edge → Checked (List Vec3)
 points (ArcEdge arc from to) = arcs.points arc from to
+points (CurveEdge curve from to) = pointsC curve from to
 
 -- a call on a box
 abbrev pub call : Bounds → Edge → Due Bounds
@@ -35,8 +43,13 @@ pub arc-call : (b : Bounds) (arc : Arc) (from to : Vec3) → call b (ArcEdge arc
 unfolding arcs.extendDue
 arc-call b arc from to = refl
 
+pub curve-call : (b : Bounds) (curve : Curve) (from to : Vec3) → call b (CurveEdge curve from to) ≡ curves.extendDue curve from to b
+unfolding curves.extendDue
+curve-call b curve from to = refl
+
 sound : (e : Edge) → handed e ≡ passed → Sound (points e)
 sound (ArcEdge arc from to) h = points-sound (arc .center) (arc .axis) (arc .radius) from to
+sound (CurveEdge curve from to) h = curves-laws.points-sound curve from to
 
 -- every list of box calls, from every box free of NaN
 pub box-calls-met : (b : Bounds) → T (free b) → (es : List Edge) → Met handed points b es
