@@ -1,0 +1,57 @@
+use borrow.Author.Needs.{needs}
+use Rattle.surfaces.specs.Surfaces.{planeOf}
+use Rattle.surfaces.specs.Entries.{planeDue}
+use Rattle.handed.specs.Laws.{passing-none, passing-some}
+use mathlib.Core.Path.{sym}
+use Rattle.surfaces.proofs.Surface.plane.Statement.{statement}
+use Rattle.surfaces.proofs.Surface.plane.Tie as tie
+
+tried-requires : tie.Need-tried-requires
+tried-requires c κs = search needs
+
+enum-known-self : tie.Need-enum-known-self
+enum-known-self c = search needs
+
+enum-told : tie.Need-enum-told
+enum-told c = search needs
+
+enum-told-2 : tie.Need-enum-told-2
+enum-told-2 c = search needs
+
+enum-told-3 : tie.Need-enum-told-3
+enum-told-3 c = search needs
+
+returns : tie.Need-returns
+unfolding planeDue planeOf
+returns c = simp (c .before .before .before .if1 .taken, passing-none, ← c .before .before .before .before .tried .ensures) (simp (c .before .self .given .1))
+
+returns-2 : tie.Need-returns-2
+unfolding planeDue planeOf
+returns-2 c = simp (c .before .before .if1 .taken, passing-none, ← c .before .before .before .tried .ensures) (simp (c .enum-told .given .1))
+
+returns-3 : tie.Need-returns-3
+unfolding planeDue planeOf
+returns-3 c = simp (c .before .before .if1 .taken, passing-none, ← c .before .before .before .tried .ensures) (simp (c .enum-told2 .given .1))
+
+returns-4 : tie.Need-returns-4
+unfolding planeDue planeOf
+returns-4 c = simp (c .before .before .if1 .taken, passing-none, ← c .before .before .before .tried .ensures) (simp (c .enum-told3 .given .1))
+
+returns-5 : tie.Need-returns-5
+unfolding planeDue planeOf
+returns-5 c = simp (← c .before .tried .ensures) (sym (passing-some _ _ (c .if1 .left)))
+
+pub plane-spec : {M : Type 1} → statement M
+plane-spec =
+    tie.close
+    (tie.spec
+    tried-requires
+    enum-known-self
+    enum-told
+    enum-told-2
+    enum-told-3
+    returns
+    returns-2
+    returns-3
+    returns-4
+    returns-5)

@@ -1,0 +1,65 @@
+-- What the entries on surfaces are due to answer.
+use Prim.Native.Nat.{ℕ}
+use mathlib.Core.Bool.{Bool, true, _&&_}
+use Rattle.checked.specs.Refusals.{OUT-OF-RANGE}
+use Rattle.checked.specs.Checked.{Checked, within, Due, due, refused, answered}
+use Rattle.handed.specs.Handed.{fails, passing}
+use Rattle.traces.specs.Traces.{Optional, some, none}
+use Rattle.vectors.specs.declared.Vec3.{Vec3}
+use Rattle.vectors.specs.Vectors.{within3}
+use Rattle.motions.specs.declared.Rigid.{Rigid}
+use Rattle.motions.specs.Motions.{withinRigid}
+use Rattle.frames.specs.declared.Cone.{Cone}
+use Rattle.frames.specs.Entries.{coneWithin}
+use Rattle.pieces.specs.Entries as pieces
+use Rattle.surfaces.specs.declared.Plane.{Plane}
+use Rattle.surfaces.specs.declared.Cylinder.{Cylinder}
+use Rattle.surfaces.specs.declared.Surface.{Surface}
+use Rattle.surfaces.specs.declared.Surface.the-variants as surface
+use Rattle.surfaces.specs.declared.SurfaceAnswer.{SurfaceAnswer}
+use Rattle.surfaces.specs.declared.SurfaceAnswer.the-variants as answer
+use Rattle.surfaces.specs.declared.SurfacePlane.{SurfacePlane}
+use Rattle.surfaces.specs.declared.SurfacePlane.the-variants as surface-plane
+use Rattle.surfaces.specs.declared.SurfaceCone.{SurfaceCone}
+use Rattle.surfaces.specs.declared.SurfaceCone.the-variants as surface-cone
+use Rattle.surfaces.specs.Surfaces.{planeOf, coneOf, movedC, normalC}
+
+-- ---- what the code's answers say
+abbrev pub surfaceDue : SurfaceAnswer → Due Surface
+surfaceDue (answer.Value s) = due s
+surfaceDue (answer.Refused n) = refused n
+
+abbrev pub surfacePlaneDue : SurfacePlane → Due (Optional Plane)
+surfacePlaneDue (surface-plane.Value p) = due (some p)
+surfacePlaneDue surface-plane.Nothing = due none
+surfacePlaneDue (surface-plane.Refused n) = refused n
+
+abbrev pub surfaceConeDue : SurfaceCone → Due (Optional Cone)
+surfaceConeDue (surface-cone.Value c) = due (some c)
+surfaceConeDue surface-cone.Nothing = due none
+surfaceConeDue (surface-cone.Refused n) = refused n
+
+-- ---- what is tried
+-- the number of the test that fails first: of the surface, and of the other numbers handed in
+unfoldable pub tests : Surface → Bool → ℕ
+tests (surface.Plane p) others = fails OUT-OF-RANGE (within3 (p .origin) && (within3 (p .normal) && others)) 0
+tests (surface.Cylinder c) others = fails OUT-OF-RANGE (within3 (c .origin) && (within3 (c .axis) && (within (c .radius) && others))) 0
+tests (surface.Cone c) others = fails OUT-OF-RANGE (coneWithin c && others) 0
+tests (surface.Wall w) others = pieces.tests w others true
+
+-- ---- what is due
+-- `Surface::plane`
+unfoldable pub planeDue : Surface → Due (Optional Plane)
+planeDue s = passing (tests s true) (due (planeOf s))
+
+-- `Surface::revolution`
+unfoldable pub revolutionDue : Surface → Due (Optional Cone)
+revolutionDue s = passing (tests s true) (due (coneOf s))
+
+-- `Surface::moved`
+unfoldable pub movedDue : Surface → Rigid → Due Surface
+movedDue s m = passing (tests s (withinRigid m)) (answered (movedC s m))
+
+-- `Surface::normal_at`
+unfoldable pub normalDue : Surface → Vec3 → Due Vec3
+normalDue s p = passing (tests s (within3 p)) (answered (normalC s p))

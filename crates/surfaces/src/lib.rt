@@ -1,0 +1,177 @@
+// The surface that a face lies on: what a program may call is here, the formulas that choose by its case in `formula`.
+ghost use mathlib.Core.Path.{_≡_};
+ghost use Rattle.checked.specs.Checked.{settled};
+ghost use Rattle.vectors.specs.Entries.{vectorDue};
+ghost use Rattle.surfaces.specs.Entries.{surfaceDue, surfacePlaneDue, surfaceConeDue, tests, planeDue, revolutionDue, movedDue, normalDue};
+use checked::OUT_OF_RANGE;
+use checked::is_within;
+use frames::Cone;
+use motions::Rigid;
+use motions::is_within_rigid;
+use pieces::Rolled;
+use vectors::Vec3;
+use vectors::Vector;
+use vectors::is_within3;
+
+pub mod formula;
+
+// A plane through `origin`, whose normal points out of the body.
+pub struct Plane {
+    pub origin: Vec3,
+    pub normal: Vec3,
+}
+
+// A circular cylinder: its axis through `origin` along the unit `axis`. Where it is `convex` the body lies inside.
+pub struct Cylinder {
+    pub origin: Vec3,
+    pub axis: Vec3,
+    pub radius: f64,
+    pub convex: bool,
+}
+
+pub enum Surface {
+    Plane(Plane),
+    Cylinder(Cylinder),
+    Cone(Cone),
+    // The piece swept along the radius, out of the body left of its direction.
+    Wall(Rolled),
+}
+
+// A surface, with the refusal that its computation met first; 0 is none.
+pub struct CheckedSurface {
+    pub value: Surface,
+    pub refusal: u8,
+}
+
+// The answer of an entry whose result is a surface.
+pub enum SurfaceAnswer {
+    Value(Surface),
+    Refused(u8),
+}
+
+// The answer of `plane`: nothing for the other surfaces.
+pub enum SurfacePlane {
+    Value(Plane),
+    Nothing,
+    Refused(u8),
+}
+
+// The answer of `revolution`: nothing for a plane and a wall.
+pub enum SurfaceCone {
+    Value(Cone),
+    Nothing,
+    Refused(u8),
+}
+
+// The surface, or its refusal where there is one.
+fn settle(c: CheckedSurface) -> SurfaceAnswer
+    ensures { λ r. ⌜ surfaceDue r ≡ settled (c .refusal) (c .value) ⌝ }
+{
+    let r = c.refusal;
+    let v = c.value;
+    if r == 0 {
+        SurfaceAnswer::Value(v)
+    } else {
+        SurfaceAnswer::Refused(r)
+    }
+}
+
+impl Surface {
+    // The number of the test of what is handed in that fails first, 0 for none.
+    pub fn tried(self, others: bool) -> u8
+        ensures { λ r. ⌜ r ≡ tests self others ⌝ }
+    {
+        match self {
+            Surface::Plane(p) => {
+                if is_within3(p.origin) & (is_within3(p.normal) & others) {
+                    0
+                } else {
+                    OUT_OF_RANGE
+                }
+            }
+            Surface::Cylinder(c) => {
+                if is_within3(c.origin) & (is_within3(c.axis) & (is_within(c.radius) & others)) {
+                    0
+                } else {
+                    OUT_OF_RANGE
+                }
+            }
+            Surface::Cone(c) => {
+                if c.is_within() & others {
+                    0
+                } else {
+                    OUT_OF_RANGE
+                }
+            }
+            Surface::Wall(w) => w.tried(others, true),
+        }
+    }
+
+    // The plane that the surface is, where it is one.
+    pub fn plane(self) -> SurfacePlane
+        ensures { λ r. ⌜ surfacePlaneDue r ≡ planeDue self ⌝ }
+    {
+        let n = self.tried(true);
+        if n == 0 {
+            match self {
+                Surface::Plane(p) => SurfacePlane::Value(p),
+                Surface::Cylinder(_) => SurfacePlane::Nothing,
+                Surface::Cone(_) => SurfacePlane::Nothing,
+                Surface::Wall(_) => SurfacePlane::Nothing,
+            }
+        } else {
+            SurfacePlane::Refused(n)
+        }
+    }
+
+    // A cylinder as a cone of no slope, a cone as itself.
+    pub fn revolution(self) -> SurfaceCone
+        ensures { λ r. ⌜ surfaceConeDue r ≡ revolutionDue self ⌝ }
+    {
+        let n = self.tried(true);
+        if n == 0 {
+            match self {
+                Surface::Plane(_) => SurfaceCone::Nothing,
+                Surface::Cylinder(c) => {
+                    let o = c.origin;
+                    let a = c.axis;
+                    SurfaceCone::Value(Cone {
+                        origin: o,
+                        axis: a,
+                        radius: c.radius,
+                        slope: 0.0,
+                        convex: c.convex,
+                    })
+                }
+                Surface::Cone(c) => SurfaceCone::Value(c),
+                Surface::Wall(_) => SurfaceCone::Nothing,
+            }
+        } else {
+            SurfaceCone::Refused(n)
+        }
+    }
+
+    // The same surface moved by m.
+    pub fn moved(self, m: Rigid) -> SurfaceAnswer
+        ensures { λ r. ⌜ surfaceDue r ≡ movedDue self m ⌝ }
+    {
+        let n = self.tried(is_within_rigid(m));
+        if n == 0 {
+            settle(formula::moved(self, m))
+        } else {
+            SurfaceAnswer::Refused(n)
+        }
+    }
+
+    // The unit normal out of the body at p, a point of the surface.
+    pub fn normal_at(self, p: Vec3) -> Vector
+        ensures { λ r. ⌜ vectorDue r ≡ normalDue self p ⌝ }
+    {
+        let n = self.tried(is_within3(p));
+        if n == 0 {
+            vectors::settle(formula::normal(self, p))
+        } else {
+            Vector::Refused(n)
+        }
+    }
+}
