@@ -1,5 +1,5 @@
-// A piece of a development that follows a meet, on numbers of any size: where it is at t, and how it moves. A call works out what its caller
-// reads, and no more.
+// A piece of a development that follows a meet, on numbers of any size: where it is at t, and how
+// it moves. A call works out what its caller reads, and no more.
 ghost use mathlib.Core.Path.{_≡_};
 ghost use Rattle.pipes.specs.Pipes.{reachC};
 ghost use Rattle.reaches.specs.Reaches.{speedC};
@@ -29,7 +29,8 @@ use vectors::formula::noted;
 use vectors::formula::plus;
 use vectors::formula::times;
 
-// The piece's first and last u, the neutral radius, the angles of a hole, and the pipe, worked out once.
+// The piece's first and last u, the neutral radius, the angles of a hole, and the pipe, worked out
+// once.
 pub struct Course {
     pub from: f64,
     pub to: f64,
@@ -38,8 +39,8 @@ pub struct Course {
     pub pipe: Pipe,
 }
 
-// How fast u and v run, and the point in space, each with the refusal met on the way to it; that of the point is up to the cylinder met,
-// and its numbers are for the caller to note.
+// How fast u and v run, and the point in space, each with the refusal met on the way to it; that of
+// the point is up to the cylinder met, and its numbers are for the caller to note.
 pub struct Pace {
     pub u: f64,
     pub ru: u8,
@@ -87,8 +88,8 @@ pub fn angle(c: Course, t: f64) -> f64
     }
 }
 
-// `reach` of `pipes` and `speed_at` of `reaches` once more: with one call each they become a part of `moved`, and their many numbers stay in
-// registers.
+// `reach` of `pipes` and `speed_at` of `reaches` once more: with one call each they become a part
+// of `moved`, and their many numbers stay in registers.
 fn reach_here(p: Pipe, phi: f64) -> CheckedReached
     ensures refusal { λ r. ⌜ r .refusal ≡ reachC p phi .refusal ⌝ }
     ensures value { λ r. ⌜ r .value ≡ reachC p phi .value ⌝ }

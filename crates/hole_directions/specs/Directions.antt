@@ -11,7 +11,8 @@ use Rattle.vectors.specs.Vectors.{plane, space, vec, _⊟_, _⊠_, _⊡_}
 use Rattle.courses.specs.declared.Course.{Course}
 use Rattle.courses.specs.Courses as courses
 
--- The gradient at p of half the square of the distance from the pipe's axis, of the point at p on the cylinder of radius `own`.
+-- The gradient at p of half the square of the distance from the pipe's axis, of the point at p on
+-- the cylinder of radius `own`.
 unfoldable pub gradientC : Vec3 → Vec3 → Float → Float → Vec2 → Checked Vec2
 gradientC origin axis own n p = do
   phi ← num (p .x) ⊘ num n

@@ -1,4 +1,5 @@
-// The direction of a hole's edge in a development, on numbers of any size: along the level line of the distance from the pipe's axis.
+// The direction of a hole's edge in a development, on numbers of any size: along the level line of
+// the distance from the pipe's axis.
 ghost use mathlib.Core.Path.{_≡_};
 ghost use Rattle.hole_directions.specs.Directions.{gradientC, facing, sideC};
 use checked::CheckedNumber;
@@ -14,7 +15,8 @@ use vectors::formula::dot;
 use vectors::formula::minus;
 use vectors::formula::times;
 
-// The gradient at p of half the square of the distance from the pipe's axis, of the point at p on the cylinder of radius `own`.
+// The gradient at p of half the square of the distance from the pipe's axis, of the point at p on
+// the cylinder of radius `own`.
 pub fn gradient(origin: Vec3, axis: Vec3, own: f64, n: f64, p: Vec2) -> CheckedVec2
     ensures refusal { λ r. ⌜ r .refusal ≡ gradientC origin axis own n p .refusal ⌝ }
     ensures value { λ r. ⌜ r .value ≡ gradientC origin axis own n p .value ⌝ }

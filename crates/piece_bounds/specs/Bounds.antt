@@ -1,4 +1,5 @@
--- The points by which a piece of a development widens a box: those of the two arcs about the axis at the two ends of its box along v.
+-- The points by which a piece of a development widens a box: those of the two arcs about the axis
+-- at the two ends of its box along v.
 use mathlib.Core.List.{List}
 use lib.Ieee.{Float}
 use Rattle.checked.specs.Checked.{Checked, first, _>>=_, given, num}

@@ -1,4 +1,5 @@
--- Where no refusal is met, every point by which a piece widens a box is finite; and which notes suffice. Assumes nothing.
+-- Where no refusal is met, every point by which a piece widens a box is finite; and which notes
+-- suffice. Assumes nothing.
 use mathlib.Core.Path.{_≡_, refl}
 use mathlib.Core.List.{List}
 use lib.Ieee.{Float}

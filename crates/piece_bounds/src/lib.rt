@@ -1,4 +1,5 @@
-// A piece's part of a box: the arcs about the axis at the two ends of its box along v hold it. On numbers of any size.
+// A piece's part of a box: the arcs about the axis at the two ends of its box along v hold it. On
+// numbers of any size.
 ghost use mathlib.Core.Path.{_≡_};
 ghost use Rattle.checked.specs.Checked.{first};
 ghost use Rattle.boxes.specs.Boxes.{widenedBy};

@@ -67,7 +67,8 @@ ownC m from to n p = do
   y ← slopeVC (courseOf m from to n pipe) t
   given (plane x y)
 
--- with it: the gradient at p is worked out first, then the pipe and what is read at the piece's middle
+-- with it: the gradient at p is worked out first, then the pipe and what is read at the piece's
+-- middle
 unfoldable pub holeC : Meet → Vec2 → Vec2 → Float → Vec2 → Checked Vec2
 holeC m from to n p = do
   g ← gradientC (m .origin) (m .axis) (m .own) n p

@@ -1,4 +1,5 @@
-// The unit normal of the wall over a piece of a development, left of its direction: on numbers of any size.
+// The unit normal of the wall over a piece of a development, left of its direction: on numbers of
+// any size.
 ghost use mathlib.Core.Path.{_≡_};
 ghost use Rattle.piece_normals.specs.Normals.{straightC, arcC, waveC, ownC, holeC, meetC, tracedC, untracedC, directionC, normalC};
 use checked::earlier;

@@ -31,7 +31,8 @@ unfoldable pub both : PieceArc → PieceTrace → Bool
 both piece-arc.Without t = false
 both (piece-arc.With a) t = isTraced t
 
--- the number of the test that fails first, 0 for none: all numbers handed in are within the limit, the neutral radius is above 0, there are not
--- an arc and a trace, and the chord or the deviation is one
+-- the number of the test that fails first, 0 for none: all numbers handed in are within the limit,
+-- the neutral radius is above 0, there are not both an arc and a trace, and a chord is not below 0,
+-- a deviation above 0
 unfoldable pub handedPiece : Bool → Float → Bool → Bool → ℕ
 handedPiece all neutral two tolerable = fails OUT-OF-RANGE all (fails NEUTRAL-NOT-POSITIVE (lt zero neutral) (fails ARC-AND-TRACE (not two) (fails BAD-TOLERANCE tolerable 0)))

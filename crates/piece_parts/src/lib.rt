@@ -50,8 +50,9 @@ pub fn are_both(arc: PieceArc, trace: PieceTrace) -> bool
     }
 }
 
-// The number of the test that fails first, 0 for none. all: every number handed in is within the limit; two: there are an arc and a trace;
-// tolerable: the chord or the deviation, where there is one, is one.
+// The number of the test that fails first, 0 for none. all: every number handed in is within the
+// limit; two: there are an arc and a trace; tolerable: a chord is not below 0, a deviation is above
+// 0, where there is one.
 pub fn tried_piece(all: bool, neutral: f64, two: bool, tolerable: bool) -> u8
     ensures { λ r. ⌜ r ≡ handedPiece all neutral two tolerable ⌝ }
 {

@@ -63,7 +63,8 @@ boxDue (rolled-box.Refused n) = refused n
 unfoldable pub pieceWithin : Rolled → Bool
 pieceWithin p = developmentWithin (p .dev) && (within2 (p .from) && (within2 (p .to) && (arcWithin (p .arc) && followedWithin (p .trace))))
 
--- the number of the test that fails first: of the piece, of the other numbers handed in, of a chord or a deviation
+-- the number of the test that fails first: of the piece, of the other numbers handed in, of a chord
+-- or a deviation
 unfoldable pub tests : Rolled → Bool → Bool → ℕ
 tests p others tolerable = handedPiece (pieceWithin p && others) (p .dev .neutral) (both (p .arc) (p .trace)) tolerable
 

@@ -244,7 +244,8 @@ impl Rolled {
         }
     }
 
-    // Chords of a polyline through the piece in its development, each at most `deviation` off it: 1 without a trace, at least 2 with one.
+    // Chords of a polyline through the piece in its development, each at most `deviation` off it: 1
+    // without a trace, at least 2 with one.
     pub fn polyline(self, deviation: f64) -> RolledCount
         ensures { λ r. ⌜ countDue r ≡ polylineDue self deviation ⌝ }
     {
@@ -272,7 +273,8 @@ impl Rolled {
         }
     }
 
-    // The unit normal at q of the wall over the piece, r from the axis: left of the piece's direction.
+    // The unit normal at q of the wall over the piece, r from the axis: left of the piece's
+    // direction.
     pub fn normal(self, q: Vec2, r: f64) -> Vector
         ensures { λ v. ⌜ vectorDue v ≡ normalDue self q r ⌝ }
     {

@@ -1,5 +1,5 @@
--- `Rolled::second`: the second derivative in t of a piece. What is not read of a meet is not in it: without `turn` the height alone
--- is, with it neither the height nor its first derivative.
+-- `Rolled::second`: the second derivative in t of a piece. What is not read of a meet is not in it:
+-- without `turn` the height alone is, with it neither the height nor its first derivative.
 use lib.Ieee.{Float}
 use Rattle.checked.specs.Checked.{Checked, first, _>>=_, given, finite, num, minus, _⊕_, _⊖_, _⊗_, _⊘_}
 use Rattle.checked.specs.Numbers.{zero, two}

@@ -29,7 +29,8 @@ struct Curl {
     rv: u8,
 }
 
-// x and y of a point, of its first and its second derivative, and the z of that, each with its refusal.
+// x and y of a point, of its first and its second derivative, and the z of that, each with its
+// refusal.
 struct Levelled {
     q0: Vec2,
     r0: u8,

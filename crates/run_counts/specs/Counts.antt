@@ -1,4 +1,5 @@
--- Into how many pieces or chords a piece of a development is cut: `Rolled::quadrature_pieces`, `Rolled::chords`, `Rolled::polyline`.
+-- Into how many pieces or chords a piece of a development is cut: `Rolled::quadrature_pieces`,
+-- `Rolled::chords`, `Rolled::polyline`.
 use Prim.Native.Nat.{ℕ}
 use lib.Ieee.{Float}
 use Rattle.checked.specs.Checked.{Checked, first, _>>=_, given, finite, num, _⊕_, _⊖_, _⊗_, _⊘_}

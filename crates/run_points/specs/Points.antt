@@ -1,4 +1,5 @@
--- `Rolled::at`: the point at t of a piece, from 0 at its first end to 1 at its last, and its derivative in t.
+-- `Rolled::at`: the point at t of a piece, from 0 at its first end to 1 at its last, and its
+-- derivative in t.
 use lib.Ieee.{Float}
 use Rattle.checked.specs.Checked.{Checked, first, _>>=_, given, finite, num, minus, _⊕_, _⊖_, _⊗_}
 use Rattle.circle.specs.Circle.{sincosC}

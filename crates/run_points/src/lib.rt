@@ -1,4 +1,5 @@
-// Where a piece of a development is at t, from 0 at its first end to 1 at its last, and how it moves there: on numbers of any size.
+// Where a piece of a development is at t, from 0 at its first end to 1 at its last, and how it
+// moves there: on numbers of any size.
 ghost use mathlib.Core.Path.{_≡_};
 ghost use Rattle.run_points.specs.Points.{straightC, swungC, arcPointC, arcC, waveC, atC};
 use checked::earlier;

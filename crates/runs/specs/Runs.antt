@@ -15,8 +15,8 @@ use Rattle.runs.specs.declared.Way.{Way}
 use Rattle.runs.specs.declared.Way.the-variants as way
 use Rattle.runs.specs.declared.Run.{Run}
 
--- along a meet. The Rust works out the pipe in each call of `Meet::point`, always the same, and refused by the number 9 alone,
--- before any sine is due; here it is worked out first.
+-- along a meet. The Rust works out the pipe in each call of `Meet::point`, always the same, and
+-- refused by the number 9 alone, before any sine is due; here it is worked out first.
 unfoldable pub meetWayC : Vec2 → Vec2 → Float → Meet → Checked Way
 meetWayC from to n m = do
   p ← pipeC m n
@@ -31,7 +31,8 @@ unfoldable pub untraced : PieceArc → Way
 untraced (piece-arc.With a) = way.Arc a
 untraced piece-arc.Without = way.Straight
 
--- a piece with both is refused where it is handed in, so which of the two goes first makes no difference
+-- a piece with both is refused where it is handed in, so which of the two goes first makes no
+-- difference
 unfoldable pub wayC : Vec2 → Vec2 → Float → PieceArc → PieceTrace → Checked Way
 wayC from to n arc (piece-trace.With t) = tracedC from to n t
 wayC from to n arc piece-trace.Without = given (untraced arc)

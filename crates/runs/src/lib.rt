@@ -1,4 +1,5 @@
-// What a piece of a development follows, from its first end to its last, ready to be followed: of a meet the pipe is worked out once.
+// What a piece of a development follows, from its first end to its last, ready to be followed: of a
+// meet the pipe is worked out once.
 ghost use mathlib.Core.Path.{_≡_};
 ghost use Rattle.runs.specs.Runs.{meetWayC, tracedC, untraced, wayC, runC};
 use courses::Course;

@@ -76,7 +76,8 @@ pub data Case : Type 0 where
   reverses : Arc → Arc → Case
   -- the sweep of an arc from one point to another
   sweeps : Arc → Vec3 → Vec3 → Float → Case
-  -- how many inner points an arc from one point to another is drawn with, for a chord and a row long enough
+  -- how many inner points an arc from one point to another is drawn with, for a chord and a row
+  -- long enough
   draws : Arc → Vec3 → Vec3 → Float → ℕ → Case
   -- the box of an arc from one point to another
   boxed : Arc → Vec3 → Vec3 → Vec3 → Vec3 → Case
@@ -159,7 +160,8 @@ swing = record { a = two; b = three; c = zero }
 abbrev main : Meet
 main = record { origin = space zero zero (float 20); axis = space one zero zero; radius = float 10; own = one; turn = turn.Without }
 
--- a development around z, of the neutral radius 10; in it a piece straight on, one about the origin, and one along a wave of no amplitude
+-- a development around z, of the neutral radius 10; in it a piece straight on, one about the
+-- origin, and one along a wave of no amplitude
 abbrev sheet : Development
 sheet = record { origin = origin; axis = space zero zero one; start = space one zero zero; neutral = float 10 }
 
