@@ -5,5 +5,6 @@ pub mod of_developments;
 pub mod of_frames;
 pub mod of_motions;
 pub mod of_numbers;
+pub mod of_pieces;
 pub mod of_traces;
 pub mod of_vectors;

@@ -1,0 +1,157 @@
+// Pieces of a development.
+ghost use mathlib.Core.Path.{_≡_};
+ghost use Rattle.pieces.specs.Entries as Pieces;
+ghost use Rattle.records.specs.Records.{vec2, alone, ofVec2, ofVec3, numberOf, after, tagDue};
+ghost use Rattle.piece_records.specs.Records.{isPiece, piece, ofPlace, ofMeasure, ofBox};
+use piece_records::is_piece;
+use piece_records::piece_of;
+use piece_records::store_box;
+use piece_records::store_count;
+use piece_records::store_measure;
+use piece_records::store_place;
+use piece_records::store_second;
+use records::UNKNOWN_TAG;
+use records::store_vector;
+use records::vec2_of;
+
+#[no_mangle]
+pub extern "C" fn jr_piece_uv_box(w: &[f64; 26], arc: u32, trace: u32, out: &mut [f64; 4]) -> u32
+    ensures number { λ n. ⌜ n ≡ numberOf (tagDue (isPiece arc trace) (Pieces.uvBoxDue (piece (now (w .entry)) arc trace))) ⌝ }
+    ensures out { λ _. ⌜ now (out .exit) ≡ after ofBox (now (out .entry)) (tagDue (isPiece arc trace) (Pieces.uvBoxDue (piece (now (w .entry)) arc trace))) ⌝ }
+{
+    if is_piece(arc, trace) {
+        let c = piece_of(w, arc, trace);
+        store_box(c.uv_box(), out)
+    } else {
+        UNKNOWN_TAG
+    }
+}
+
+#[no_mangle]
+pub extern "C" fn jr_piece_polyline(
+    w: &[f64; 26],
+    arc: u32,
+    trace: u32,
+    deviation: f64,
+    out: &mut [u64; 1],
+) -> u32
+    ensures number { λ n. ⌜ n ≡ numberOf (tagDue (isPiece arc trace) (Pieces.polylineDue (piece (now (w .entry)) arc trace) deviation)) ⌝ }
+    ensures out { λ _. ⌜ now (out .exit) ≡ after alone (now (out .entry)) (tagDue (isPiece arc trace) (Pieces.polylineDue (piece (now (w .entry)) arc trace) deviation)) ⌝ }
+{
+    if is_piece(arc, trace) {
+        let c = piece_of(w, arc, trace);
+        store_count(c.polyline(deviation), out)
+    } else {
+        UNKNOWN_TAG
+    }
+}
+
+#[no_mangle]
+pub extern "C" fn jr_piece_at(
+    w: &[f64; 26],
+    arc: u32,
+    trace: u32,
+    t: f64,
+    out: &mut [f64; 4],
+) -> u32
+    ensures number { λ n. ⌜ n ≡ numberOf (tagDue (isPiece arc trace) (Pieces.atDue (piece (now (w .entry)) arc trace) t)) ⌝ }
+    ensures out { λ _. ⌜ now (out .exit) ≡ after ofPlace (now (out .entry)) (tagDue (isPiece arc trace) (Pieces.atDue (piece (now (w .entry)) arc trace) t)) ⌝ }
+{
+    if is_piece(arc, trace) {
+        let c = piece_of(w, arc, trace);
+        store_place(c.at(t), out)
+    } else {
+        UNKNOWN_TAG
+    }
+}
+
+#[no_mangle]
+pub extern "C" fn jr_piece_second(
+    w: &[f64; 26],
+    arc: u32,
+    trace: u32,
+    t: f64,
+    out: &mut [f64; 2],
+) -> u32
+    ensures number { λ n. ⌜ n ≡ numberOf (tagDue (isPiece arc trace) (Pieces.secondDue (piece (now (w .entry)) arc trace) t)) ⌝ }
+    ensures out { λ _. ⌜ now (out .exit) ≡ after ofVec2 (now (out .entry)) (tagDue (isPiece arc trace) (Pieces.secondDue (piece (now (w .entry)) arc trace) t)) ⌝ }
+{
+    if is_piece(arc, trace) {
+        let c = piece_of(w, arc, trace);
+        store_second(c.second(t), out)
+    } else {
+        UNKNOWN_TAG
+    }
+}
+
+#[no_mangle]
+pub extern "C" fn jr_piece_normal(
+    w: &[f64; 26],
+    arc: u32,
+    trace: u32,
+    p: &[f64; 2],
+    r: f64,
+    out: &mut [f64; 3],
+) -> u32
+    ensures number { λ n. ⌜ n ≡ numberOf (tagDue (isPiece arc trace) (Pieces.normalDue (piece (now (w .entry)) arc trace) (vec2 (now (p .entry))) r)) ⌝ }
+    ensures out { λ _. ⌜ now (out .exit) ≡ after ofVec3 (now (out .entry)) (tagDue (isPiece arc trace) (Pieces.normalDue (piece (now (w .entry)) arc trace) (vec2 (now (p .entry))) r)) ⌝ }
+{
+    if is_piece(arc, trace) {
+        let c = piece_of(w, arc, trace);
+        let q = vec2_of(p);
+        store_vector(c.normal(q, r), out)
+    } else {
+        UNKNOWN_TAG
+    }
+}
+
+#[no_mangle]
+pub extern "C" fn jr_piece_measure(w: &[f64; 26], arc: u32, trace: u32, out: &mut [f64; 3]) -> u32
+    ensures number { λ n. ⌜ n ≡ numberOf (tagDue (isPiece arc trace) (Pieces.measureDue (piece (now (w .entry)) arc trace))) ⌝ }
+    ensures out { λ _. ⌜ now (out .exit) ≡ after ofMeasure (now (out .entry)) (tagDue (isPiece arc trace) (Pieces.measureDue (piece (now (w .entry)) arc trace))) ⌝ }
+{
+    if is_piece(arc, trace) {
+        let c = piece_of(w, arc, trace);
+        store_measure(c.measure(), out)
+    } else {
+        UNKNOWN_TAG
+    }
+}
+
+#[no_mangle]
+pub extern "C" fn jr_piece_quadrature_pieces(
+    w: &[f64; 26],
+    arc: u32,
+    trace: u32,
+    out: &mut [u64; 1],
+) -> u32
+    ensures number { λ n. ⌜ n ≡ numberOf (tagDue (isPiece arc trace) (Pieces.quadratureDue (piece (now (w .entry)) arc trace))) ⌝ }
+    ensures out { λ _. ⌜ now (out .exit) ≡ after alone (now (out .entry)) (tagDue (isPiece arc trace) (Pieces.quadratureDue (piece (now (w .entry)) arc trace))) ⌝ }
+{
+    if is_piece(arc, trace) {
+        let c = piece_of(w, arc, trace);
+        store_count(c.quadrature_pieces(), out)
+    } else {
+        UNKNOWN_TAG
+    }
+}
+
+#[no_mangle]
+pub extern "C" fn jr_piece_chords(
+    w: &[f64; 26],
+    arc: u32,
+    trace: u32,
+    r: f64,
+    chord: f64,
+    out: &mut [u64; 1],
+) -> u32
+    ensures number { λ n. ⌜ n ≡ numberOf (tagDue (isPiece arc trace) (Pieces.chordsDue (piece (now (w .entry)) arc trace) r chord)) ⌝ }
+    ensures out { λ _. ⌜ now (out .exit) ≡ after alone (now (out .entry)) (tagDue (isPiece arc trace) (Pieces.chordsDue (piece (now (w .entry)) arc trace) r chord)) ⌝ }
+{
+    if is_piece(arc, trace) {
+        let c = piece_of(w, arc, trace);
+        store_count(c.chords(r, chord), out)
+    } else {
+        UNKNOWN_TAG
+    }
+}
