@@ -4,7 +4,7 @@
 use Prim.Native.Nat.{ℕ, _*_}
 use native.Mathlib.Omega.{arith}
 use mathlib.Core.Path.{_≡_, refl, sym, ap, _∙_, subst}
-use mathlib.Core.Bool.{Bool, true, false, cond}
+use mathlib.Core.Bool.{Bool, true, false}
 use mathlib.Core.List.{List, [], _∷_, _++_}
 use lib.Dec.{T, leb}
 use lib.IntN.{ℤ}
@@ -14,7 +14,6 @@ use lib.Ieee.Bits.{is-true}
 use Rattle.checked.specs.Refusals.{OUT-OF-RANGE, BAD-BOX-OR-SUMS, COUNT-TOO-LARGE}
 use Rattle.checked.specs.Checked.{Due, due, refused, unless}
 use Rattle.vectors.specs.declared.Vec3.{Vec3}
-use Rattle.boxes.specs.declared.Bounds.{Bounds}
 use Rattle.boxes.specs.Boxes.{free, empty, passed, widenedBy}
 use Rattle.boxes.specs.Laws.{empty-free}
 use Rattle.boxes.specs.Demand3.{answer}
@@ -22,10 +21,8 @@ use Rattle.sweeps.specs.Sweeps.{endsWithin}
 use Rattle.arcs.specs.Entries.{points}
 use Rattle.box_calls.specs.BoxCalls.{call, arc-call}
 use Rattle.decimals.specs.Thousandths.{thousandths, nearest-up, most, signed}
-use Rattle.decimals.specs.Digits.{numeral}
 use Rattle.edge_lines.specs.Lines.{bytes, spaced, corner, emptyLine, refusedLine, cornersLine, boxLine}
 use Rattle.edge_records.specs.declared.Edge.{Edge}
-use Rattle.edge_records.specs.declared.Record.{Record}
 use Rattle.edge_records.specs.declared.Record.the-variants as first
 use Rattle.edge_records.specs.Records.{recordOf, sizeOf, kindOf}
 use Rattle.edge_file.specs.EdgeFile.{nothing, printed, ended, byRecord, lineFrom, lineOf}

@@ -1,7 +1,6 @@
 -- The cases of libm 0.2.1's arccosine, operation by operation: acos.rs, with its names for
 -- constants and variables. Definitions only. libm's square root is IEEE 754's.
 use Prim.Native.Nat.{ℕ}
-use mathlib.Core.Bool.{Bool, cond}
 use lib.Dec.{leb, eqb}
 use lib.Ieee.{Float, binary64}
 use Rattle.checked.specs.Patterns.{upper}

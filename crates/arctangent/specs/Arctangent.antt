@@ -1,7 +1,7 @@
 -- The angle of a point by libm 0.2.1, operation by operation: atan2.rs, with its names for
 -- constants and variables, over the arctangent (crate atan). Definitions only.
 use Prim.Native.Nat.{ℕ, _+_, _%_, _*_, _^_}
-use mathlib.Core.Bool.{Bool, cond, _&&_, _||_}
+use mathlib.Core.Bool.{Bool, _&&_, _||_}
 use lib.Dec.{ltb, eqb}
 use lib.Ieee.{Float, neg, isNan}
 use Rattle.checked.specs.Patterns.{bits, high-word}

@@ -1,7 +1,6 @@
 -- The arctangent of libm 0.2.1, operation by operation: atan.rs, with its names for constants and
 -- variables. Definitions only. Operations that libm makes only to raise a flag are left out.
 use Prim.Native.Nat.{ℕ}
-use mathlib.Core.Bool.{Bool, cond}
 use lib.Dec.{leb, ltb}
 use lib.Ieee.{Float, neg, isNan}
 use Rattle.checked.specs.Patterns.{high-word}

@@ -1,7 +1,7 @@
 -- libm 0.2.1's hypotenuse of two patterns, operation by operation: hypot.rs, with its names for
 -- constants and variables. Definitions only. libm's square root is IEEE 754's.
 use Prim.Native.Nat.{ℕ, _+_, _-_, _/_, _^_}
-use mathlib.Core.Bool.{Bool, cond, _||_}
+use mathlib.Core.Bool.{_||_}
 use lib.Dec.{ltb, eqb}
 use lib.Ieee.{Float, binary64}
 use Rattle.checked.specs.Numbers.{one, two, literal}

@@ -1,18 +1,18 @@
 -- A number from 0 to 1 is a cosine: its arccosine is finite. Assumes nothing.
-use mathlib.Core.Path.{_≡_, refl, sym, ap, _∙_, subst}
+use mathlib.Core.Path.{_≡_, refl, sym, subst}
 use mathlib.Core.Bool.{Bool, true, false, cond}
 use Prim.Native.Nat.{ℕ, suc, _+_, _*_, _/_, _%_, _^_, _≤_, _<_}
 use native.Mathlib.Omega.{arith}
 use lib.Dec.{T, leb, ltb, eqb, ltb→lt, lt→ltb, lit≤}
-use lib.IntN.{pos, negsuc}
+use lib.IntN.{negsuc}
 use lib.Ieee.{Float, nan, inf, fin, binary64, up, down, add, sub, mul, div, neg, le, lt, eq, fits, ofBits}
-use lib.Ieee.Fits.{add-fits, sub-fits, mul-fits}
+use lib.Ieee.Fits.{mul-fits}
 use lib.Ieee.Bits.{ofBits-toBits}
 use borrow.Author.Tests.{leb-true, leb-false, ltb-true, ltb-false, eq-eqb}
 use Rattle.checked.specs.Checked.{isFinite}
 use Rattle.checked.specs.Numbers.{literal, zero, half, one, two}
 use Rattle.checked.specs.Patterns.{bits, high-word, upper}
-use Rattle.order.specs.Order.{le-trans-of, lt-not-le, le-refl-of}
+use Rattle.order.specs.Order.{le-trans-of, lt-not-le}
 use Rattle.words.specs.Words.{fabs, sign, size, _+ᶠ_, _-ᶠ_, _*ᶠ_, _/ᶠ_}
 use Rattle.words.specs.Laws.{fabs-bits}
 use Rattle.words.specs.Signs.{above-sign}
@@ -20,7 +20,7 @@ use Rattle.rounding.specs.Root as Root
 use Rattle.arccosine.specs.Arccosine.{PIO2-HI, PIO2-LO, PS0, PS1, PS2, PS3, PS4, PS5, QS1, QS2, QS3, QS4, tiny, sqrt, ratio, atOne, acosFar, acosNear, acosAbove, acosBelow}
 use Rattle.roots.specs.Roots.{acos}
 use Rattle.bounds.specs.Parts.{nought, add-le}
-use Rattle.bounds.specs.Intervals.{In, Upto, plain, positive, upto-in, in-upto, upto-wider, upto-add, upto-sub, upto-mul, upto-div, in-add, in-sub, in-wider, in-scaled, in-finite, le-fabs, finite-number, upto-finite, plain-finite, plain-fabs}
+use Rattle.bounds.specs.Intervals.{In, Upto, plain, positive, upto-in, in-upto, upto-wider, upto-add, upto-mul, upto-div, in-add, in-sub, in-scaled, in-finite, le-fabs, finite-number, plain-finite, plain-fabs}
 use Rattle.bounds.specs.Comparing.{lt-le-trans, above-size}
 use Rattle.bounds.specs.Own.{unit, mul-comm-of}
 use Rattle.bounds.specs.Powers.{pow, pow-wider, pow-mul, pow-add-of, pow-sub, pow-div, pow-finite}

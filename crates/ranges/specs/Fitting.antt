@@ -1,10 +1,10 @@
 -- The arctangent of a value of the format, and the angle of a point, are values of the format.
 -- Assumes nothing.
-use mathlib.Core.Bool.{Bool, cond, _||_}
+use mathlib.Core.Bool.{_||_}
 use Prim.Native.Nat.{ℕ, _+_, _*_, _%_}
 use lib.Dec.{T, leb, ltb, eqb}
-use lib.Ieee.{Float, binary64, add, sub, div, neg, fits, isNan}
-use lib.Ieee.Fits.{cond-fits, neg-fits, add-fits, sub-fits, mul-fits, div-fits}
+use lib.Ieee.{Float, binary64, neg, fits, isNan}
+use lib.Ieee.Fits.{cond-fits, neg-fits, add-fits, sub-fits, div-fits}
 use lib.Ieee.Bits.{ofBits-fits}
 use Rattle.checked.specs.Numbers.{literal, zero, two, three, four, pi}
 use Rattle.checked.specs.Patterns.{high-word}

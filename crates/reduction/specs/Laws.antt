@@ -1,7 +1,7 @@
 -- How large an angle within 1,048,576 is: in quarter turns, and by its high word. Assumes nothing.
 use mathlib.Core.Bool.{false}
 use Prim.Native.Nat.{_≤_}
-use lib.IntN.{pos, negsuc}
+use lib.IntN.{pos}
 use lib.Dec.{T}
 use lib.Ieee.{Float, fin, binary64, add, mul, neg, le, lt, eq, fits, ofBits}
 use Rattle.checked.specs.Checked.{isFinite, within}

@@ -3,7 +3,7 @@
 use Prim.Native.Nat.{ℕ}
 use mathlib.Core.Path.{_≡_, refl}
 use mathlib.Core.List.{List, [], _∷_, map}
-use lib.Ieee.{Float, add, sub, mul, div, neg, toBits, ofBits}
+use lib.Ieee.{add, sub, mul, div, neg, toBits, ofBits}
 use Rattle.checked.specs.Numbers.{literal}
 use Rattle.rounding.specs.Root as Root
 use Rattle.words.specs.Special.{minus, nought, least, one, greatest, infinity, not-a-number, π, π/2}

@@ -22,7 +22,6 @@ use Rattle.circle.specs.Circle.{sines, sinesOrZeros, sincosC}
 use Rattle.arcs.specs.declared.Arc.{Arc}
 use Rattle.arcs.specs.Entries.{atDue}
 use Rattle.sweeps.specs.Sweeps.{circleWithin}
-use Rattle.rims.specs.Rims.{rimC}
 use Rattle.rims.specs.Laws.{rim-refusal}
 use Rattle.spokes.specs.Spokes.{angleWithin, spokeC, turnedC, atC}
 use Rattle.spokes.specs.Laws.{spoke-refusal, rimOf, turned-refusal, turned-value}

@@ -13,7 +13,7 @@ use Rattle.checked.specs.Numbers.{literal, zero, pi, tau}
 use Rattle.order.specs.Order.{eq-le, eq-sym, le-antisym, le-trans-of, lt-not-le}
 use Rattle.angles.specs.Angles.{aheadC, backC}
 use Rattle.bounds.specs.Parts.{nought}
-use Rattle.bounds.specs.Intervals.{In, in-add, in-sub, in-finite}
+use Rattle.bounds.specs.Intervals.{in-add, in-sub, in-finite}
 use Rattle.bounds.specs.Neighbours.{next-down, next-up}
 use Rattle.ranges.specs.Quadrants.{Angle}
 use Rattle.vectors.specs.declared.Vec2.{Vec2}

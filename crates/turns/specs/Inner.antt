@@ -2,48 +2,45 @@
 -- of 189 numbers suffices; the count is never refused by 10, an angle never by 8, and 9 is met
 -- exactly where `Arc::at` meets it. Assumes nothing.
 use mathlib.Core.Path.{_≡_, refl, sym, ap, _∙_, subst}
-use mathlib.Core.Logic.{_⊎_, inl, inr}
+use mathlib.Core.Logic.{inl, inr}
 use mathlib.Core.Bool.{Bool, true, false, not, cond, _&&_, _||_}
-use mathlib.Core.List.{List, []}
+use mathlib.Core.List.{List}
 use Prim.Native.Nat as N
 use Prim.Native.Nat.{ℕ, suc, _+_, _-_, _*_, _/_, _^_, _≤_, _<_}
-use native.Mathlib.Nat.{zero-lt-suc, div-lt-iff-lt-mul, mul-one, one-mul}
+use native.Mathlib.Nat.{zero-lt-suc, div-lt-iff-lt-mul}
 use native.Mathlib.Omega.{arith}
 use lib.Dec.{T, leb}
 use lib.IntN.{pos, negsuc}
 use lib.Ieee.{Float, nan, inf, fin, binary64, up, down, round, mul, div, neg, le, lt, eq, ofBits, ofInt, toUnsigned}
-use lib.Ieee.Fits.{and-i, and-l, and-r, down-pos}
+use lib.Ieee.Fits.{and-i, down-pos}
 use lib.Ieee.Bits.{is-true}
 use lib.Ieee.Order.{round-mono}
 use borrow.Author.Tests.{le-leb}
 use Rattle.checked.specs.Refusals.{OUT-OF-RANGE, BAD-TOLERANCE, NOT-FINITE}
 use Rattle.checked.specs.Checked.{Checked, first, isFinite, nine, within, given, Due, due, refused, settled, unless, answered}
-use Rattle.checked.specs.Laws.{zero-first, first-zero, settled-none}
+use Rattle.checked.specs.Laws.{first-zero, settled-none}
 use Rattle.checked.specs.Numbers.{zero, one, tau, float}
-use Rattle.order.specs.Order.{le-numbers, le-trans-of, lt-le}
+use Rattle.order.specs.Order.{le-trans-of, lt-le}
 use Rattle.order.specs.Least.{greatest}
 use Rattle.order.specs.Extremes.{greatest-picks}
 use Rattle.words.specs.Words.{fabs}
 use Rattle.rounding.specs.Whole.{ceil, floored, ceiled}
 use Rattle.vectors.specs.declared.Vec3.{Vec3}
-use Rattle.vectors.specs.Vectors.{within3, nines}
-use Rattle.circle.specs.Circle.{sincosC}
 use Rattle.chords.specs.Chords.{fewest, most, perTurnC}
 use Rattle.counts.specs.Counts.{MOST, limitedC, countC}
 use Rattle.counts.specs.Laws.{at-most}
 use Rattle.rows.specs.Rows.{upTo, fits, andThen, allRefusal, allDue}
-use Rattle.rims.specs.Rims.{rimC, rimAtC}
-use Rattle.rims.specs.Laws.{rim-refusal, rimAt-refusal}
+use Rattle.rims.specs.Laws.{rimAt-refusal}
 use Rattle.sweeps.specs.Sweeps.{endsWithin, sweepC}
-use Rattle.spokes.specs.Spokes.{spokeC, turnedC}
+use Rattle.spokes.specs.Spokes.{spokeC}
 use Rattle.spokes.specs.Laws.{rimOf, turned-refusal}
 use Rattle.cuts.specs.declared.Cut.{Cut}
-use Rattle.cuts.specs.Cuts.{chordWithin, cutC, innerC, innersDue}
+use Rattle.cuts.specs.Cuts.{chordWithin, cutC, innersDue}
 use Rattle.cuts.specs.Laws.{cut-refusal, rimmed, inners-are}
 use Rattle.arcs.specs.declared.Arc.{Arc}
 use Rattle.arcs.specs.Entries.{innerPointsDue}
 use Rattle.bounds.specs.Parts.{nought, plus, minus}
-use Rattle.bounds.specs.Intervals.{In, Upto, upto-in, in-upto, upto-parts, upto-mul, upto-wider, fabs-round, finite-number, le-fabs}
+use Rattle.bounds.specs.Intervals.{Upto, upto-in, in-upto, upto-parts, upto-mul, fabs-round, finite-number}
 use Rattle.bounds.specs.Own.{unit, above-zero, div-most}
 use Rattle.bounds.specs.Powers.{pow, pow-finite, pow-mul, pow-div, pow-wider}
 use Rattle.turns.specs.Sizes.{none, nine-none}

@@ -3,17 +3,16 @@
 use mathlib.Core.Path.{_≡_, refl, sym, ap, _∙_, subst}
 use mathlib.Core.Bool.{Bool, true, false, not, cond, _&&_}
 use Prim.Native.Nat as N
-use Prim.Native.Nat.{ℕ, suc, _+_, _-_, _*_, _/_, _≤_, _<_}
+use Prim.Native.Nat.{ℕ, suc, _-_, _*_, _<_}
 use native.Mathlib.Nat.{zero-lt-suc, mul-pos}
-use native.Mathlib.Omega.{arith}
 use lib.Dec.{T, eqb}
-use lib.IntN.{ℤ, pos, negsuc}
-use lib.Ieee.{Float, nan, inf, fin, Format, binary64, up, down, round, unlike, sub, div, neg, le, lt, eq, fits, isNan, ofBits}
+use lib.IntN.{ℤ, negsuc}
+use lib.Ieee.{Float, nan, inf, fin, binary64, up, down, round, unlike, sub, div, neg, le, lt, eq, isNan, ofBits}
 use borrow.Author.Tests.{eqb-false}
-use lib.Ieee.Fits.{sub-fits, and-l, and-r, down-pos, up-pos}
-use lib.Ieee.Bits.{is-true, is-false}
+use lib.Ieee.Fits.{sub-fits, down-pos, up-pos}
+use lib.Ieee.Bits.{is-false}
 use Rattle.checked.specs.Refusals.{OUT-OF-RANGE, BAD-TOLERANCE}
-use Rattle.checked.specs.Checked.{Checked, first, isFinite, nine, within, given, due, settled, unless, answered}
+use Rattle.checked.specs.Checked.{isFinite, nine, within, given, due, settled, unless, answered}
 use Rattle.checked.specs.Laws.{within-finite, first-zero, settled-none, rules as checked-rules}
 use Rattle.checked.specs.Numbers.{zero, one, pi}
 use Rattle.order.specs.Order.{Number, le-numbers, le-trans-of, not-lt-le, lt-le, fails}
@@ -21,13 +20,13 @@ use Rattle.words.specs.Words.{fabs}
 use Rattle.words.specs.Laws.{fabs-nan}
 use Rattle.rounding.specs.Whole.{ceil, floored, ceiled}
 use Rattle.roots.specs.Roots.{acos}
-use Rattle.chords.specs.Chords.{fewest, most, acosC, quotientC, chordsC, clamped, perTurnC, perTurnDue}
+use Rattle.chords.specs.Chords.{fewest, most, quotientC, chordsC, clamped, perTurnC, perTurnDue}
 use Rattle.bounds.specs.Parts.{nought, positive-round}
-use Rattle.bounds.specs.Intervals.{In, Upto, upto-in, in-sub, in-finite, fabs-round, le-fabs, finite-number}
+use Rattle.bounds.specs.Intervals.{In, upto-in, in-sub, in-finite, fabs-round, le-fabs, finite-number}
 use Rattle.bounds.specs.Comparing.{le-lt-trans, above-size}
 use Rattle.bounds.specs.Own.{unit, above-zero, div-most, div-above}
 use Rattle.ranges.specs.Arccosines.{acos-finite}
-use Rattle.turns.specs.Sizes.{none, nine-none}
+use Rattle.turns.specs.Sizes.{nine-none}
 
 -- ---- what is no NaN
 
