@@ -79,7 +79,14 @@ fn wall_normal(w: Rolled, p: Vec3) -> CheckedVec3
     ensures refusal { λ r. ⌜ r .refusal ≡ wallC w p .refusal ⌝ }
     ensures value { λ r. ⌜ r .value ≡ wallC w p .value ⌝ }
 {
-    let x = unroll(w.dev.origin, w.dev.axis, w.dev.start, w.dev.neutral, p, w.from.x);
+    let x = unroll(
+        w.dev.origin,
+        w.dev.axis,
+        w.dev.start,
+        w.dev.neutral,
+        p,
+        w.from.x,
+    );
     let q = x.value.p;
     let n = pieces::formula::normal(w, q, x.value.r);
     let v = n.value;
