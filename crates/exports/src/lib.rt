@@ -6,5 +6,6 @@ pub mod of_frames;
 pub mod of_motions;
 pub mod of_numbers;
 pub mod of_pieces;
+pub mod of_sums;
 pub mod of_traces;
 pub mod of_vectors;

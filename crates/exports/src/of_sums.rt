@@ -1,0 +1,87 @@
+// What is integrated over faces.
+ghost use mathlib.Core.Path.{_≡_};
+ghost use mathlib.Core.Bool.{true};
+ghost use Rattle.segments.specs.Entries as Segments;
+ghost use Rattle.revolutions.specs.Revolutions as Revolutions;
+ghost use Rattle.closings.specs.Closings.{closeDue};
+ghost use Rattle.records.specs.Records.{vec3, numberOf, after};
+ghost use Rattle.arc_records.specs.Records.{arc};
+ghost use Rattle.face_records.specs.Records.{cone, sums, ofSums};
+use arc_records::arc_of;
+use face_records::cone_of;
+use face_records::store_sums;
+use face_records::sums_of;
+use records::vec3_of;
+
+#[no_mangle]
+pub extern "C" fn jr_segment(
+    acc: &mut [f64; 8],
+    a: &[f64; 7],
+    k: &[f64; 3],
+    u: &[f64; 3],
+    v: &[f64; 3],
+    n: &[f64; 3],
+    o: &[f64; 3],
+) -> u32
+    ensures number { λ r. ⌜ r ≡ numberOf (Segments.segmentDue (arc (now (a .entry))) (vec3 (now (k .entry))) (vec3 (now (u .entry))) (vec3 (now (v .entry))) (vec3 (now (n .entry))) (vec3 (now (o .entry))) (sums (now (acc .entry)))) ⌝ }
+    ensures acc { λ _. ⌜ now (acc .exit) ≡ after ofSums (now (acc .entry)) (Segments.segmentDue (arc (now (a .entry))) (vec3 (now (k .entry))) (vec3 (now (u .entry))) (vec3 (now (v .entry))) (vec3 (now (n .entry))) (vec3 (now (o .entry))) (sums (now (acc .entry)))) ⌝ }
+{
+    let c = arc_of(a);
+    let axis = vec3_of(k);
+    let from = vec3_of(u);
+    let to = vec3_of(v);
+    let normal = vec3_of(n);
+    let origin = vec3_of(o);
+    let old = sums_of(acc);
+    store_sums(
+        segments::with_segment(old, c, axis, from, to, normal, origin),
+        acc,
+    )
+}
+
+#[no_mangle]
+pub extern "C" fn jr_revolution_open(c: &[f64; 8], o: &[f64; 3], running: &mut [f64; 8]) -> u32
+    ensures number { λ r. ⌜ r ≡ numberOf (Revolutions.openDue (cone (now (c .entry)) true) (vec3 (now (o .entry)))) ⌝ }
+    ensures running { λ _. ⌜ now (running .exit) ≡ after ofSums (now (running .entry)) (Revolutions.openDue (cone (now (c .entry)) true) (vec3 (now (o .entry)))) ⌝ }
+{
+    let k = cone_of(c, true);
+    let origin = vec3_of(o);
+    store_sums(revolutions::open(k, origin), running)
+}
+
+#[no_mangle]
+pub extern "C" fn jr_revolution_add_arc(
+    c: &[f64; 8],
+    o: &[f64; 3],
+    a: &[f64; 7],
+    u: &[f64; 3],
+    v: &[f64; 3],
+    running: &mut [f64; 8],
+) -> u32
+    ensures number { λ r. ⌜ r ≡ numberOf (Revolutions.addDue (cone (now (c .entry)) true) (vec3 (now (o .entry))) (Revolutions.arc (arc (now (a .entry))) (vec3 (now (u .entry))) (vec3 (now (v .entry)))) (sums (now (running .entry)))) ⌝ }
+    ensures running { λ _. ⌜ now (running .exit) ≡ after ofSums (now (running .entry)) (Revolutions.addDue (cone (now (c .entry)) true) (vec3 (now (o .entry))) (Revolutions.arc (arc (now (a .entry))) (vec3 (now (u .entry))) (vec3 (now (v .entry)))) (sums (now (running .entry)))) ⌝ }
+{
+    let k = cone_of(c, true);
+    let origin = vec3_of(o);
+    let b = arc_of(a);
+    let from = vec3_of(u);
+    let to = vec3_of(v);
+    let old = sums_of(running);
+    store_sums(revolutions::add_arc(old, k, b, from, to, origin), running)
+}
+
+#[no_mangle]
+pub extern "C" fn jr_revolution_close(
+    c: &[f64; 8],
+    convex: bool,
+    running: &[f64; 8],
+    acc: &mut [f64; 8],
+) -> u32
+    ensures number { λ r. ⌜ r ≡ numberOf (closeDue (cone (now (c .entry)) convex) (sums (now (running .entry))) (sums (now (acc .entry)))) ⌝ }
+    ensures acc { λ _. ⌜ now (acc .exit) ≡ after ofSums (now (acc .entry)) (closeDue (cone (now (c .entry)) convex) (sums (now (running .entry))) (sums (now (acc .entry)))) ⌝ }
+{
+    let k = cone_of(c, convex);
+    let face = sums_of(running);
+    let old = sums_of(acc);
+    store_sums(closings::closed(old, k, face), acc)
+}
