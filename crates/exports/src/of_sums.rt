@@ -4,13 +4,18 @@ ghost use mathlib.Core.Bool.{true};
 ghost use Rattle.segments.specs.Entries as Segments;
 ghost use Rattle.revolutions.specs.Revolutions as Revolutions;
 ghost use Rattle.closings.specs.Closings.{closeDue};
-ghost use Rattle.records.specs.Records.{vec3, numberOf, after};
+ghost use Rattle.cut_walls.specs.Entries.{wallDue};
+ghost use Rattle.records.specs.Records.{vec3, numberOf, after, tagDue};
 ghost use Rattle.arc_records.specs.Records.{arc};
 ghost use Rattle.face_records.specs.Records.{cone, sums, ofSums};
+ghost use Rattle.piece_records.specs.Records.{isPiece, piece};
 use arc_records::arc_of;
 use face_records::cone_of;
 use face_records::store_sums;
 use face_records::sums_of;
+use piece_records::is_piece;
+use piece_records::piece_of;
+use records::UNKNOWN_TAG;
 use records::vec3_of;
 
 #[no_mangle]
@@ -71,6 +76,37 @@ pub extern "C" fn jr_revolution_add_arc(
 }
 
 #[no_mangle]
+pub extern "C" fn jr_revolution_add_piece(
+    c: &[f64; 8],
+    o: &[f64; 3],
+    w: &[f64; 26],
+    arc: u32,
+    trace: u32,
+    running: &mut [f64; 8],
+) -> u32
+    ensures number { λ r. ⌜ r ≡ numberOf (tagDue (isPiece arc trace) (Revolutions.addDue (cone (now (c .entry)) true) (vec3 (now (o .entry))) (Revolutions.piece (piece (now (w .entry)) arc trace .dev) (piece (now (w .entry)) arc trace .from) (piece (now (w .entry)) arc trace .to) (piece (now (w .entry)) arc trace .arc) (piece (now (w .entry)) arc trace .trace)) (sums (now (running .entry))))) ⌝ }
+    ensures running { λ _. ⌜ now (running .exit) ≡ after ofSums (now (running .entry)) (tagDue (isPiece arc trace) (Revolutions.addDue (cone (now (c .entry)) true) (vec3 (now (o .entry))) (Revolutions.piece (piece (now (w .entry)) arc trace .dev) (piece (now (w .entry)) arc trace .from) (piece (now (w .entry)) arc trace .to) (piece (now (w .entry)) arc trace .arc) (piece (now (w .entry)) arc trace .trace)) (sums (now (running .entry))))) ⌝ }
+{
+    if is_piece(arc, trace) {
+        let k = cone_of(c, true);
+        let origin = vec3_of(o);
+        let p = piece_of(w, arc, trace);
+        let old = sums_of(running);
+        let d = p.dev;
+        let from = p.from;
+        let to = p.to;
+        let bow = p.arc;
+        let path = p.trace;
+        store_sums(
+            revolutions::add_piece(old, k, d, from, to, bow, path, origin),
+            running,
+        )
+    } else {
+        UNKNOWN_TAG
+    }
+}
+
+#[no_mangle]
 pub extern "C" fn jr_revolution_close(
     c: &[f64; 8],
     convex: bool,
@@ -84,4 +120,35 @@ pub extern "C" fn jr_revolution_close(
     let face = sums_of(running);
     let old = sums_of(acc);
     store_sums(closings::closed(old, k, face), acc)
+}
+
+#[no_mangle]
+pub extern "C" fn jr_wall(
+    acc: &mut [f64; 8],
+    w: &[f64; 26],
+    arc: u32,
+    trace: u32,
+    r0: f64,
+    r1: f64,
+    o: &[f64; 3],
+) -> u32
+    ensures number { λ r. ⌜ r ≡ numberOf (tagDue (isPiece arc trace) (wallDue (piece (now (w .entry)) arc trace .dev) (piece (now (w .entry)) arc trace .from) (piece (now (w .entry)) arc trace .to) (piece (now (w .entry)) arc trace .arc) (piece (now (w .entry)) arc trace .trace) r0 r1 (vec3 (now (o .entry))) (sums (now (acc .entry))))) ⌝ }
+    ensures acc { λ _. ⌜ now (acc .exit) ≡ after ofSums (now (acc .entry)) (tagDue (isPiece arc trace) (wallDue (piece (now (w .entry)) arc trace .dev) (piece (now (w .entry)) arc trace .from) (piece (now (w .entry)) arc trace .to) (piece (now (w .entry)) arc trace .arc) (piece (now (w .entry)) arc trace .trace) r0 r1 (vec3 (now (o .entry))) (sums (now (acc .entry))))) ⌝ }
+{
+    if is_piece(arc, trace) {
+        let p = piece_of(w, arc, trace);
+        let origin = vec3_of(o);
+        let old = sums_of(acc);
+        let d = p.dev;
+        let from = p.from;
+        let to = p.to;
+        let bow = p.arc;
+        let path = p.trace;
+        store_sums(
+            cut_walls::with_cut_wall(old, d, from, to, bow, path, r0, r1, origin),
+            acc,
+        )
+    } else {
+        UNKNOWN_TAG
+    }
 }
