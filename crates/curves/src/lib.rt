@@ -1,7 +1,7 @@
 // A curve in space: what a program may call is here, the formulas that choose between arc and piece in `formula`.
 ghost use mathlib.Core.Path.{_≡_};
 ghost use Rattle.checked.specs.Checked.{settled};
-ghost use Rattle.boxes.specs.Boxes.{widenedDue, outcome};
+ghost use Rattle.boxes.specs.Boxes.{widenedDue, outcome, Lent};
 ghost use Rattle.curves.specs.Entries.{curveDue, curveArcDue, tests, reversedDue, movedDue, arcDue, extendDue};
 use arcs::Arc;
 use boxes::Bounds;
@@ -144,5 +144,15 @@ impl Curve {
         ensures { λ r. ⌜ r ≡ outcome bounds (extendDue self from to bounds) ⌝ }
     {
         boxes::after(bounds, self.extended(from, to, bounds))
+    }
+
+    // The lent box widened by the curve: 0 where it is accepted, else the refusal's number, and the
+    // box is as it was.
+    pub fn extend_bounds(self, from: Vec3, to: Vec3, bounds: &mut Bounds) -> u8
+        ensures { λ r. ⌜ Lent (extendDue self from to) (now (bounds .entry)) r (now (bounds .exit)) ⌝ }
+    {
+        let end = self.outcome(from, to, *bounds);
+        *bounds = end.bounds;
+        end.number
     }
 }
