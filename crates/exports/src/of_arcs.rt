@@ -19,6 +19,7 @@ use records::store_vector;
 use records::vec2_of;
 use records::vec3_of;
 
+// The vector of length 1 in the direction of v.
 #[no_mangle]
 pub extern "C" fn jr_unit(v: &[f64; 3], out: &mut [f64; 3]) -> u32
     ensures number { λ r. ⌜ r ≡ numberOf (Directions.unitDue (vec3 (now (v .entry)))) ⌝ }
@@ -28,6 +29,8 @@ pub extern "C" fn jr_unit(v: &[f64; 3], out: &mut [f64; 3]) -> u32
     store_vector(directions::unit(u), out)
 }
 
+// The angle turned about `center` from a to b: above 0 and at most 2 pi where `ccw`, else below 0
+// and at least -2 pi.
 #[no_mangle]
 pub extern "C" fn jr_turn(
     center: &[f64; 2],
@@ -49,6 +52,7 @@ pub extern "C" fn jr_turn(
     store_number(arc.turn(p, q), out)
 }
 
+// The arc a run the other way: its axis turned round.
 #[no_mangle]
 pub extern "C" fn jr_reversed(a: &[f64; 7], out: &mut [f64; 7]) -> u32
     ensures number { λ r. ⌜ r ≡ numberOf (Arcs.reversedDue (arc (now (a .entry)))) ⌝ }
@@ -58,6 +62,8 @@ pub extern "C" fn jr_reversed(a: &[f64; 7], out: &mut [f64; 7]) -> u32
     store_arc(c.reversed(), out)
 }
 
+// The angle of the arc a from `from` to `to`, above 0 and at most 2 pi: one point twice is a full
+// circle.
 #[no_mangle]
 pub extern "C" fn jr_sweep(a: &[f64; 7], from: &[f64; 3], to: &[f64; 3], out: &mut [f64; 1]) -> u32
     ensures number { λ r. ⌜ r ≡ numberOf (Arcs.sweepDue (arc (now (a .entry))) (vec3 (now (from .entry))) (vec3 (now (to .entry)))) ⌝ }
@@ -69,6 +75,7 @@ pub extern "C" fn jr_sweep(a: &[f64; 7], from: &[f64; 3], to: &[f64; 3], out: &m
     store_number(c.sweep(u, v), out)
 }
 
+// The point of the arc a at the angle t from `from`, counterclockwise about its axis.
 #[no_mangle]
 pub extern "C" fn jr_at(a: &[f64; 7], from: &[f64; 3], t: f64, out: &mut [f64; 3]) -> u32
     ensures number { λ r. ⌜ r ≡ numberOf (Arcs.atDue (arc (now (a .entry))) (vec3 (now (from .entry))) t) ⌝ }
@@ -79,6 +86,7 @@ pub extern "C" fn jr_at(a: &[f64; 7], from: &[f64; 3], t: f64, out: &mut [f64; 3
     store_vector(c.at(u, t), out)
 }
 
+// Widens the box b to hold the arc a from `from` to `to`.
 #[no_mangle]
 pub extern "C" fn jr_extend_bounds(
     a: &[f64; 7],
@@ -96,6 +104,8 @@ pub extern "C" fn jr_extend_bounds(
     store_bounds(c.extended(u, v, old), b)
 }
 
+// How many chords a full turn of a circle takes to stay within `chord` of it, at least 12 and at
+// most 64.
 #[no_mangle]
 pub extern "C" fn jr_per_turn(radius: f64, chord: f64, out: &mut [f64; 1]) -> u32
     ensures number { λ r. ⌜ r ≡ numberOf (Chords.perTurnDue radius chord) ⌝ }
@@ -104,7 +114,9 @@ pub extern "C" fn jr_per_turn(radius: f64, chord: f64, out: &mut [f64; 1]) -> u3
     store_number(chords::per_turn(radius, chord), out)
 }
 
-// How many numbers were written goes to `written`.
+// Writes the points of the arc a strictly between `from` and `to`, for as many chords a turn as
+// `jr_per_turn` says, three numbers each from the start of `row`, and how many numbers these are to
+// `written`.
 #[no_mangle]
 pub extern "C" fn jr_inner_points(
     a: &[f64; 7],

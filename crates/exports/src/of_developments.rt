@@ -12,6 +12,7 @@ use records::store_vector;
 use records::vec2_of;
 use records::vec3_of;
 
+// The unit vector away from the axis of the development at u.
 #[no_mangle]
 pub extern "C" fn jr_development_radial(dev: &[f64; 10], u: f64, out: &mut [f64; 3]) -> u32
     ensures number { λ r. ⌜ r ≡ numberOf (Developments.radialDue (development (now (dev .entry))) u) ⌝ }
@@ -21,6 +22,7 @@ pub extern "C" fn jr_development_radial(dev: &[f64; 10], u: f64, out: &mut [f64;
     store_vector(d.radial(u), out)
 }
 
+// The point at p = (u, v) of the development, r away from its axis.
 #[no_mangle]
 pub extern "C" fn jr_development_point(
     dev: &[f64; 10],
@@ -36,6 +38,7 @@ pub extern "C" fn jr_development_point(
     store_vector(d.point(q, r), out)
 }
 
+// How the point at p of the development, r away from its axis, moves as p moves by d.
 #[no_mangle]
 pub extern "C" fn jr_development_along(
     dev: &[f64; 10],
@@ -53,6 +56,8 @@ pub extern "C" fn jr_development_along(
     store_vector(c.along(q, v, r), out)
 }
 
+// The u and v of the point q in the development, u within half a turn of `near`, and the distance
+// of q from its axis.
 #[no_mangle]
 pub extern "C" fn jr_development_unroll(
     dev: &[f64; 10],
@@ -68,6 +73,7 @@ pub extern "C" fn jr_development_unroll(
     store_unrolled(d.unroll(p, near), out)
 }
 
+// The development moved by m.
 #[no_mangle]
 pub extern "C" fn jr_development_moved(dev: &[f64; 10], m: &[f64; 12], out: &mut [f64; 10]) -> u32
     ensures number { λ r. ⌜ r ≡ numberOf (Developments.movedDue (development (now (dev .entry))) (rigid (now (m .entry)))) ⌝ }

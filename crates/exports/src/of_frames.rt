@@ -11,7 +11,7 @@ use records::store_number;
 use records::store_vector;
 use records::vec3_of;
 
-// Which side the body is on makes no difference to the frame.
+// The frame of the cone c, the same whichever side the body is on.
 #[no_mangle]
 pub extern "C" fn jr_cone_frame(c: &[f64; 8], out: &mut [f64; 12]) -> u32
     ensures number { λ r. ⌜ r ≡ numberOf (Frames.frameDue (cone (now (c .entry)) true)) ⌝ }
@@ -21,6 +21,7 @@ pub extern "C" fn jr_cone_frame(c: &[f64; 8], out: &mut [f64; 12]) -> u32
     store_frame(k.own_frame(), out)
 }
 
+// The angle of the point p about the axis of the frame f, -pi to pi.
 #[no_mangle]
 pub extern "C" fn jr_frame_angle(f: &[f64; 12], p: &[f64; 3], out: &mut [f64; 1]) -> u32
     ensures number { λ r. ⌜ r ≡ numberOf (Frames.angleDue (frame (now (f .entry))) (vec3 (now (p .entry)))) ⌝ }
@@ -31,6 +32,7 @@ pub extern "C" fn jr_frame_angle(f: &[f64; 12], p: &[f64; 3], out: &mut [f64; 1]
     store_number(g.angle(q), out)
 }
 
+// The point at the angle theta about the axis of the frame f, z along it and r away from it.
 #[no_mangle]
 pub extern "C" fn jr_frame_point(
     f: &[f64; 12],

@@ -9,6 +9,7 @@ use motions::Rigid;
 use records::store_vector;
 use records::vec3_of;
 
+// The rotation by the angle about an axis of any length through the origin.
 #[no_mangle]
 pub extern "C" fn jr_rotation(axis: &[f64; 3], angle: f64, out: &mut [f64; 12]) -> u32
     ensures number { λ r. ⌜ r ≡ numberOf (Motions.rotationDue (vec3 (now (axis .entry))) angle) ⌝ }
@@ -18,6 +19,8 @@ pub extern "C" fn jr_rotation(axis: &[f64; 3], angle: f64, out: &mut [f64; 12]) 
     store_motion(Rigid::rotation(a, angle), out)
 }
 
+// The motion from the coordinates of a frame, its axes x, y and z at `origin`, to those of the
+// world.
 #[no_mangle]
 pub extern "C" fn jr_frame(
     origin: &[f64; 3],
@@ -36,6 +39,7 @@ pub extern "C" fn jr_frame(
     store_motion(Rigid::frame(o, a, b, c), out)
 }
 
+// The point p moved by m.
 #[no_mangle]
 pub extern "C" fn jr_apply(m: &[f64; 12], p: &[f64; 3], out: &mut [f64; 3]) -> u32
     ensures number { λ r. ⌜ r ≡ numberOf (Motions.applyDue (rigid (now (m .entry))) (vec3 (now (p .entry)))) ⌝ }
@@ -46,6 +50,7 @@ pub extern "C" fn jr_apply(m: &[f64; 12], p: &[f64; 3], out: &mut [f64; 3]) -> u
     store_vector(g.apply(q), out)
 }
 
+// The direction p turned by m, whose shift is left out.
 #[no_mangle]
 pub extern "C" fn jr_apply_vector(m: &[f64; 12], p: &[f64; 3], out: &mut [f64; 3]) -> u32
     ensures number { λ r. ⌜ r ≡ numberOf (Motions.applyVectorDue (rigid (now (m .entry))) (vec3 (now (p .entry)))) ⌝ }

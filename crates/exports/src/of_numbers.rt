@@ -11,6 +11,7 @@ ghost use Rattle.records.specs.Records.{alone, ofSines, numberOf, after};
 use records::store_number;
 use records::store_sines;
 
+// The square root of x, rounded once; a NaN where x is below 0.
 #[no_mangle]
 pub extern "C" fn jr_sqrt(x: f64) -> f64
     ensures { λ r. ⌜ r ≡ Root.sqrt binary64 x ⌝ }
@@ -18,6 +19,7 @@ pub extern "C" fn jr_sqrt(x: f64) -> f64
     rounding::sqrt(x)
 }
 
+// The least whole number that is not below x.
 #[no_mangle]
 pub extern "C" fn jr_ceil(x: f64) -> f64
     ensures { λ r. ⌜ r ≡ Whole.ceil binary64 x ⌝ }
@@ -25,6 +27,7 @@ pub extern "C" fn jr_ceil(x: f64) -> f64
     rounding::ceil(x)
 }
 
+// The whole number nearest to x, halves away from 0.
 #[no_mangle]
 pub extern "C" fn jr_round(x: f64) -> f64
     ensures { λ r. ⌜ r ≡ Whole.«round-away» binary64 x ⌝ }
@@ -32,6 +35,7 @@ pub extern "C" fn jr_round(x: f64) -> f64
     rounding::round(x)
 }
 
+// The angle of the point (x, y) in radians, -pi to pi, by libm's atan2 of y and x.
 #[no_mangle]
 pub extern "C" fn jr_atan2(y: f64, x: f64) -> f64
     ensures { λ r. ⌜ r ≡ Arctangent.atan2 y x ⌝ }
@@ -39,6 +43,7 @@ pub extern "C" fn jr_atan2(y: f64, x: f64) -> f64
     arctangent::atan2(y, x)
 }
 
+// The angle whose cosine is x, 0 to pi, by libm's acos; a NaN where x is not in -1 to 1.
 #[no_mangle]
 pub extern "C" fn jr_acos(x: f64) -> f64
     ensures { λ r. ⌜ r ≡ Roots.acos x ⌝ }
@@ -46,6 +51,7 @@ pub extern "C" fn jr_acos(x: f64) -> f64
     roots::acos(x)
 }
 
+// The length of (x, y), by libm's hypot.
 #[no_mangle]
 pub extern "C" fn jr_hypot(x: f64, y: f64) -> f64
     ensures { λ r. ⌜ r ≡ Roots.hypot x y ⌝ }
@@ -53,6 +59,7 @@ pub extern "C" fn jr_hypot(x: f64, y: f64) -> f64
     roots::hypot(x, y)
 }
 
+// The sine of the angle x.
 #[no_mangle]
 pub extern "C" fn jr_sin(x: f64, out: &mut [f64; 1]) -> u32
     ensures number { λ r. ⌜ r ≡ numberOf (answered (Circle.sinC x)) ⌝ }
@@ -61,6 +68,7 @@ pub extern "C" fn jr_sin(x: f64, out: &mut [f64; 1]) -> u32
     store_number(checked::settle(circle::sin(x)), out)
 }
 
+// The sine and the cosine of the angle x.
 #[no_mangle]
 pub extern "C" fn jr_sincos(x: f64, out: &mut [f64; 2]) -> u32
     ensures number { λ r. ⌜ r ≡ numberOf (answered (Circle.sincosC x)) ⌝ }

@@ -14,6 +14,8 @@ use records::UNKNOWN_TAG;
 use records::store_vector;
 use records::vec2_of;
 
+// The box of the piece w in its development: the least and the greatest u, the least and the
+// greatest v.
 #[no_mangle]
 pub extern "C" fn jr_piece_uv_box(w: &[f64; 26], arc: u32, trace: u32, out: &mut [f64; 4]) -> u32
     ensures number { λ n. ⌜ n ≡ numberOf (tagDue (isPiece arc trace) (Pieces.uvBoxDue (piece (now (w .entry)) arc trace))) ⌝ }
@@ -27,6 +29,7 @@ pub extern "C" fn jr_piece_uv_box(w: &[f64; 26], arc: u32, trace: u32, out: &mut
     }
 }
 
+// How many chords through the piece w stay within `deviation` of it in its development.
 #[no_mangle]
 pub extern "C" fn jr_piece_polyline(
     w: &[f64; 26],
@@ -46,6 +49,8 @@ pub extern "C" fn jr_piece_polyline(
     }
 }
 
+// The point (u, v) of the piece w at t, which is 0 at its start and 1 at its end, and its
+// derivative.
 #[no_mangle]
 pub extern "C" fn jr_piece_at(
     w: &[f64; 26],
@@ -65,6 +70,7 @@ pub extern "C" fn jr_piece_at(
     }
 }
 
+// The second derivative of the piece w at t.
 #[no_mangle]
 pub extern "C" fn jr_piece_second(
     w: &[f64; 26],
@@ -84,6 +90,8 @@ pub extern "C" fn jr_piece_second(
     }
 }
 
+// The unit normal of the wall over the piece w at p, r away from the axis: to the left of the way
+// that the piece runs.
 #[no_mangle]
 pub extern "C" fn jr_piece_normal(
     w: &[f64; 26],
@@ -105,6 +113,7 @@ pub extern "C" fn jr_piece_normal(
     }
 }
 
+// The radius of the piece w, 0 where it is no arc, the angle that it turns, and its length.
 #[no_mangle]
 pub extern "C" fn jr_piece_measure(w: &[f64; 26], arc: u32, trace: u32, out: &mut [f64; 3]) -> u32
     ensures number { λ n. ⌜ n ≡ numberOf (tagDue (isPiece arc trace) (Pieces.measureDue (piece (now (w .entry)) arc trace))) ⌝ }
@@ -118,6 +127,8 @@ pub extern "C" fn jr_piece_measure(w: &[f64; 26], arc: u32, trace: u32, out: &mu
     }
 }
 
+// How many parts the piece w is integrated over, none of which turns more than an eighth of a
+// circle.
 #[no_mangle]
 pub extern "C" fn jr_piece_quadrature_pieces(
     w: &[f64; 26],
@@ -136,6 +147,7 @@ pub extern "C" fn jr_piece_quadrature_pieces(
     }
 }
 
+// How many chords within `chord` of it draw the piece w, r away from the axis.
 #[no_mangle]
 pub extern "C" fn jr_piece_chords(
     w: &[f64; 26],

@@ -18,6 +18,8 @@ use piece_records::piece_of;
 use records::UNKNOWN_TAG;
 use records::vec3_of;
 
+// Corrects the sums `acc` of a plane face, o being their point and n the face's unit normal, for an
+// edge that is no chord from u to v but the arc a about k.
 #[no_mangle]
 pub extern "C" fn jr_segment(
     acc: &mut [f64; 8],
@@ -44,6 +46,7 @@ pub extern "C" fn jr_segment(
     )
 }
 
+// Opens the running sums of a face on the cone c, o being their point.
 #[no_mangle]
 pub extern "C" fn jr_revolution_open(c: &[f64; 8], o: &[f64; 3], running: &mut [f64; 8]) -> u32
     ensures number { λ r. ⌜ r ≡ numberOf (Revolutions.openDue (cone (now (c .entry)) true) (vec3 (now (o .entry)))) ⌝ }
@@ -54,6 +57,8 @@ pub extern "C" fn jr_revolution_open(c: &[f64; 8], o: &[f64; 3], running: &mut [
     store_sums(revolutions::open(k, origin), running)
 }
 
+// Adds the arc a from u to v, an edge of the face on the cone c, to the running sums, o being their
+// point.
 #[no_mangle]
 pub extern "C" fn jr_revolution_add_arc(
     c: &[f64; 8],
@@ -75,6 +80,7 @@ pub extern "C" fn jr_revolution_add_arc(
     store_sums(revolutions::add_arc(old, k, b, from, to, origin), running)
 }
 
+// Adds the piece w, an edge of the face on the cone c, to the running sums, o being their point.
 #[no_mangle]
 pub extern "C" fn jr_revolution_add_piece(
     c: &[f64; 8],
@@ -106,6 +112,8 @@ pub extern "C" fn jr_revolution_add_piece(
     }
 }
 
+// Adds the running sums of a face on the cone c, with the body inside where `convex`, to the sums
+// `acc`.
 #[no_mangle]
 pub extern "C" fn jr_revolution_close(
     c: &[f64; 8],
@@ -122,6 +130,8 @@ pub extern "C" fn jr_revolution_close(
     store_sums(closings::closed(old, k, face), acc)
 }
 
+// Adds the wall over the piece w, from r0 to r1 away from the axis, to the sums `acc`, o being
+// their point.
 #[no_mangle]
 pub extern "C" fn jr_wall(
     acc: &mut [f64; 8],

@@ -16,6 +16,7 @@ use trace_records::store_span;
 use trace_records::trace_of;
 use trace_records::wave_of;
 
+// The v of the wave w at u and its first and second derivatives, the neutral radius being n.
 #[no_mangle]
 pub extern "C" fn jr_wave_at(w: &[f64; 3], u: f64, n: f64, out: &mut [f64; 3]) -> u32
     ensures number { λ r. ⌜ r ≡ numberOf (Waves.atDue (wave (now (w .entry))) u n) ⌝ }
@@ -25,6 +26,7 @@ pub extern "C" fn jr_wave_at(w: &[f64; 3], u: f64, n: f64, out: &mut [f64; 3]) -
     store_jet(c.at(u, n), out)
 }
 
+// The least and the greatest v of the wave w from u0 to u1, the neutral radius being n.
 #[no_mangle]
 pub extern "C" fn jr_wave_range(w: &[f64; 3], u0: f64, u1: f64, n: f64, out: &mut [f64; 2]) -> u32
     ensures number { λ r. ⌜ r ≡ numberOf (Waves.rangeDue (wave (now (w .entry))) u0 u1 n) ⌝ }
@@ -34,6 +36,8 @@ pub extern "C" fn jr_wave_range(w: &[f64; 3], u0: f64, u1: f64, n: f64, out: &mu
     store_span(c.range(u0, u1, n), out)
 }
 
+// The point of the meet m on the generatrix at phi and its first and second derivatives, the
+// neutral radius being n.
 #[no_mangle]
 pub extern "C" fn jr_meet_point(
     m: &[f64; 10],
@@ -53,6 +57,8 @@ pub extern "C" fn jr_meet_point(
     }
 }
 
+// The v of the trace t at u, the neutral radius being n; 255 for a meet with `turn`, which has
+// none.
 #[no_mangle]
 pub extern "C" fn jr_trace_v(t: &[f64; 10], kind: u32, u: f64, n: f64, out: &mut [f64; 1]) -> u32
     ensures number { λ r. ⌜ r ≡ numberOf (tagDue (isTrace kind) (someDue (Traces.vDue (traceOf (now (t .entry)) kind) u n))) ⌝ }

@@ -7,6 +7,7 @@ use records::store_number;
 use records::store_vector;
 use records::vec3_of;
 
+// The scalar product of a and b.
 #[no_mangle]
 pub extern "C" fn jr_dot(a: &[f64; 3], b: &[f64; 3], out: &mut [f64; 1]) -> u32
     ensures number { λ r. ⌜ r ≡ numberOf (Vectors.dotDue (vec3 (now (a .entry))) (vec3 (now (b .entry)))) ⌝ }
@@ -17,6 +18,7 @@ pub extern "C" fn jr_dot(a: &[f64; 3], b: &[f64; 3], out: &mut [f64; 1]) -> u32
     store_number(u.dot(v), out)
 }
 
+// The vector product of a and b.
 #[no_mangle]
 pub extern "C" fn jr_cross(a: &[f64; 3], b: &[f64; 3], out: &mut [f64; 3]) -> u32
     ensures number { λ r. ⌜ r ≡ numberOf (Vectors.crossDue (vec3 (now (a .entry))) (vec3 (now (b .entry)))) ⌝ }
@@ -27,6 +29,7 @@ pub extern "C" fn jr_cross(a: &[f64; 3], b: &[f64; 3], out: &mut [f64; 3]) -> u3
     store_vector(u.cross(v), out)
 }
 
+// The sum of a and b.
 #[no_mangle]
 pub extern "C" fn jr_sum(a: &[f64; 3], b: &[f64; 3], out: &mut [f64; 3]) -> u32
     ensures number { λ r. ⌜ r ≡ numberOf (Vectors.sumDue (vec3 (now (a .entry))) (vec3 (now (b .entry)))) ⌝ }
@@ -37,6 +40,7 @@ pub extern "C" fn jr_sum(a: &[f64; 3], b: &[f64; 3], out: &mut [f64; 3]) -> u32
     store_vector(u.sum(v), out)
 }
 
+// The difference a - b.
 #[no_mangle]
 pub extern "C" fn jr_difference(a: &[f64; 3], b: &[f64; 3], out: &mut [f64; 3]) -> u32
     ensures number { λ r. ⌜ r ≡ numberOf (Vectors.differenceDue (vec3 (now (a .entry))) (vec3 (now (b .entry)))) ⌝ }
@@ -47,6 +51,7 @@ pub extern "C" fn jr_difference(a: &[f64; 3], b: &[f64; 3], out: &mut [f64; 3]) 
     store_vector(u.difference(v), out)
 }
 
+// The vector a with the sign of each coordinate turned.
 #[no_mangle]
 pub extern "C" fn jr_negation(a: &[f64; 3], out: &mut [f64; 3]) -> u32
     ensures number { λ r. ⌜ r ≡ numberOf (Vectors.negationDue (vec3 (now (a .entry)))) ⌝ }
@@ -56,6 +61,7 @@ pub extern "C" fn jr_negation(a: &[f64; 3], out: &mut [f64; 3]) -> u32
     store_vector(u.negation(), out)
 }
 
+// The vector a times the number k.
 #[no_mangle]
 pub extern "C" fn jr_times(a: &[f64; 3], k: f64, out: &mut [f64; 3]) -> u32
     ensures number { λ r. ⌜ r ≡ numberOf (Vectors.timesDue (vec3 (now (a .entry))) k) ⌝ }
@@ -65,6 +71,7 @@ pub extern "C" fn jr_times(a: &[f64; 3], k: f64, out: &mut [f64; 3]) -> u32
     store_vector(u.times(k), out)
 }
 
+// Which coordinate of a is the largest in magnitude, 0, 1 or 2, the first of equal ones.
 #[no_mangle]
 pub extern "C" fn jr_dominant_axis(a: &[f64; 3], out: &mut [u64; 1]) -> u32
     ensures number { λ r. ⌜ r ≡ numberOf (Vectors.dominantAxisDue (vec3 (now (a .entry)))) ⌝ }

@@ -1,0 +1,348 @@
+/* Juniperreef: arcs in space, cuts through rolled sheet, their chords and boxes, and the volumes of
+   the bodies that they bound. Lengths are millimetres, angles radians.
+
+   Made by scripts/make_header from the sources; do not edit.
+
+   A record is an array of numbers, laid out as said below. A function that answers by a uint32_t
+   answers JR_OK, and what it says is written, or the number of a refusal or of no result, and nothing
+   is written. Every function takes every bit pattern of its numbers and finishes. Axes and normals are
+   meant to have length 1; nothing tests that, and what comes out is the formula's.
+
+   To know before the first call:
+   - No pointer is null, and an array has at least the places in its brackets, read or not; a compiler
+     sees that at best where it sees the array. An array that is written overlaps no other array of the
+     same call: to move a point in place, copy it first.
+   - A function keeps nothing, allocates nothing and prints nothing; none aborts, throws or jumps. Any
+     thread may call at any time. Of the C library the archive needs memcpy and memset, and no -lm.
+   - Results are those of the floating-point environment that C starts a program with: to nearest, no
+     subnormal flushed. fesetround changes that, and so does linking by gcc with -ffast-math or -Ofast,
+     for the whole program; what is proved does not hold there.
+   - The archive is for Linux on x86-64, any processor of that kind, and position-independent: it links
+     into programs and shared libraries alike. All names that it shows to others begin with jr_. */
+
+#ifndef JUNIPERREEF_H
+#define JUNIPERREEF_H
+
+#include <stdbool.h>
+#include <stddef.h>
+#include <stdint.h>
+
+#define JR_VERSION "0.1.0"
+
+#ifdef __cplusplus
+extern "C" {
+#endif
+
+/* Answers. Refusals 1 to 5 and 7 come first, the lowest winning. */
+enum jr_answer {
+    JR_OK = 0,                   /* No refusal */
+    JR_OUT_OF_RANGE = 1,         /* A number handed in is not finite, or above 1,048,576 in
+                                    magnitude */
+    JR_NEUTRAL_NOT_POSITIVE = 2, /* A neutral radius is not greater than 0 */
+    JR_ARC_AND_TRACE = 3,        /* A piece has both an arc and a trace */
+    JR_BAD_BOX_OR_SUMS = 4,      /* A box holds a NaN, or sums hold a NaN or an infinity */
+    JR_BAD_TOLERANCE = 5,        /* A chord is below 0, or a deviation is not above 0 */
+    JR_ROW_TOO_SHORT = 6,        /* A row is shorter than three times the points due */
+    JR_PIECE_ON_CONE = 7,        /* A development's piece is among the paths of a cone whose slope
+                                    is not 0 */
+    JR_ANGLE_TOO_LARGE = 8,      /* A finite angle above 1,048,576 in magnitude is due for a sine or
+                                    cosine */
+    JR_NOT_FINITE = 9,           /* A number that the result depends on is not finite */
+    JR_COUNT_TOO_LARGE = 10,     /* A count, or a corner to print, is above its limit */
+    JR_MALFORMED_FILE = 11,      /* The bytes are not those of an edge file */
+    JR_UNKNOWN_TAG = 254,        /* A tag is none of those below */
+    JR_NONE = 255,               /* There is no such result */
+};
+
+/* The name of an answer, without JR_. */
+static inline const char *jr_name(uint32_t answer)
+{
+    switch (answer) {
+    case JR_OK: return "OK";
+    case JR_OUT_OF_RANGE: return "OUT_OF_RANGE";
+    case JR_NEUTRAL_NOT_POSITIVE: return "NEUTRAL_NOT_POSITIVE";
+    case JR_ARC_AND_TRACE: return "ARC_AND_TRACE";
+    case JR_BAD_BOX_OR_SUMS: return "BAD_BOX_OR_SUMS";
+    case JR_BAD_TOLERANCE: return "BAD_TOLERANCE";
+    case JR_ROW_TOO_SHORT: return "ROW_TOO_SHORT";
+    case JR_PIECE_ON_CONE: return "PIECE_ON_CONE";
+    case JR_ANGLE_TOO_LARGE: return "ANGLE_TOO_LARGE";
+    case JR_NOT_FINITE: return "NOT_FINITE";
+    case JR_COUNT_TOO_LARGE: return "COUNT_TOO_LARGE";
+    case JR_MALFORMED_FILE: return "MALFORMED_FILE";
+    case JR_UNKNOWN_TAG: return "UNKNOWN_TAG";
+    case JR_NONE: return "NONE";
+    default: return "no answer of this library";
+    }
+}
+
+/* Records: how many numbers each has, and which. */
+enum {
+    JR_VEC2 = 2,         /* x, y; in a development u, v */
+    JR_VEC3 = 3,         /* x, y, z */
+    JR_RIGID = 12,       /* a motion: the three rows of its rotation, its shift */
+    JR_BOUNDS = 6,       /* a box: low corner, high corner; the empty one has +infinity low,
+                            -infinity high */
+    JR_ARC = 7,          /* centre, axis, radius; it runs counterclockwise about the axis */
+    JR_DEVELOPMENT = 10, /* origin, axis, start (where u is 0, across the axis), neutral radius */
+    JR_WAVE = 3,         /* a, b, c of v = a + b cos(u / neutral) + c sin(u / neutral) */
+    JR_MEET = 10,        /* origin, axis and radius of the other pipe; own, which is 1 or -1, along
+                            or against the axis, or with a turn this pipe's radius; the turn's two
+                            angles */
+    JR_TRACE = 10,       /* a wave's three numbers, or a meet's ten */
+    JR_PIECE = 26,       /* development; from (2); to (2); the arc's centre (2); trace */
+    JR_CONE = 8,         /* origin, axis, radius at the origin, slope; a cylinder has slope 0 */
+    JR_FRAME = 12,       /* axis, origin, two unit vectors across the axis */
+    JR_SUMS = 8,         /* over a face, about a point: 6 times the volume, 24 times its moment (3),
+                            area, area vector (3) */
+};
+
+/* A row that the inner points of any arc fit in: 63 points. */
+enum {
+    JR_ARC_ROW = 189,
+};
+
+/* The tag `arc` of a piece: counterclockwise or clockwise. */
+enum {
+    JR_ARC_NONE = 0,
+    JR_ARC_CCW = 1,
+    JR_ARC_CW = 2,
+};
+
+/* The tag `trace` of a piece, and `kind` of a trace, which is never 0. */
+enum {
+    JR_TRACE_NONE = 0,
+    JR_TRACE_WAVE = 1,
+    JR_TRACE_MEET = 2,
+    JR_TRACE_MEET_TURN = 3,
+};
+
+/* The tag `turn` of a meet. */
+enum {
+    JR_TURN_NONE = 0,
+    JR_TURN_ANGLES = 1,
+};
+
+/* ---- Square root, rounding to whole numbers, and the functions of libm */
+
+/* The square root of x, rounded once; a NaN where x is below 0. */
+double jr_sqrt(double x);
+
+/* The least whole number that is not below x. */
+double jr_ceil(double x);
+
+/* The whole number nearest to x, halves away from 0. */
+double jr_round(double x);
+
+/* The angle of the point (x, y) in radians, -pi to pi, by libm's atan2 of y and x. */
+double jr_atan2(double y, double x);
+
+/* The angle whose cosine is x, 0 to pi, by libm's acos; a NaN where x is not in -1 to 1. */
+double jr_acos(double x);
+
+/* The length of (x, y), by libm's hypot. */
+double jr_hypot(double x, double y);
+
+/* The sine of the angle x. */
+uint32_t jr_sin(double x, double out[1]);
+
+/* The sine and the cosine of the angle x. */
+uint32_t jr_sincos(double x, double out[2]);
+
+/* ---- Vectors */
+
+/* The scalar product of a and b. */
+uint32_t jr_dot(const double a[JR_VEC3], const double b[JR_VEC3], double out[1]);
+
+/* The vector product of a and b. */
+uint32_t jr_cross(const double a[JR_VEC3], const double b[JR_VEC3], double out[JR_VEC3]);
+
+/* The sum of a and b. */
+uint32_t jr_sum(const double a[JR_VEC3], const double b[JR_VEC3], double out[JR_VEC3]);
+
+/* The difference a - b. */
+uint32_t jr_difference(const double a[JR_VEC3], const double b[JR_VEC3], double out[JR_VEC3]);
+
+/* The vector a with the sign of each coordinate turned. */
+uint32_t jr_negation(const double a[JR_VEC3], double out[JR_VEC3]);
+
+/* The vector a times the number k. */
+uint32_t jr_times(const double a[JR_VEC3], double k, double out[JR_VEC3]);
+
+/* Which coordinate of a is the largest in magnitude, 0, 1 or 2, the first of equal ones. */
+uint32_t jr_dominant_axis(const double a[JR_VEC3], uint64_t out[1]);
+
+/* ---- Motions */
+
+/* The rotation by the angle about an axis of any length through the origin. */
+uint32_t jr_rotation(const double axis[JR_VEC3], double angle, double out[JR_RIGID]);
+
+/* The motion from the coordinates of a frame, its axes x, y and z at `origin`, to those of the
+   world. */
+uint32_t jr_frame(const double origin[JR_VEC3], const double x[JR_VEC3], const double y[JR_VEC3],
+    const double z[JR_VEC3], double out[JR_RIGID]);
+
+/* The point p moved by m. */
+uint32_t jr_apply(const double m[JR_RIGID], const double p[JR_VEC3], double out[JR_VEC3]);
+
+/* The direction p turned by m, whose shift is left out. */
+uint32_t jr_apply_vector(const double m[JR_RIGID], const double p[JR_VEC3], double out[JR_VEC3]);
+
+/* ---- Directions, profile arcs and arcs */
+
+/* The vector of length 1 in the direction of v. */
+uint32_t jr_unit(const double v[JR_VEC3], double out[JR_VEC3]);
+
+/* The angle turned about `center` from a to b: above 0 and at most 2 pi where `ccw`, else below 0
+   and at least -2 pi. */
+uint32_t jr_turn(const double center[JR_VEC2], bool ccw, const double a[JR_VEC2],
+    const double b[JR_VEC2], double out[1]);
+
+/* The arc a run the other way: its axis turned round. */
+uint32_t jr_reversed(const double a[JR_ARC], double out[JR_ARC]);
+
+/* The angle of the arc a from `from` to `to`, above 0 and at most 2 pi: one point twice is a full
+   circle. */
+uint32_t jr_sweep(const double a[JR_ARC], const double from[JR_VEC3], const double to[JR_VEC3],
+    double out[1]);
+
+/* The point of the arc a at the angle t from `from`, counterclockwise about its axis. */
+uint32_t jr_at(const double a[JR_ARC], const double from[JR_VEC3], double t, double out[JR_VEC3]);
+
+/* Widens the box b to hold the arc a from `from` to `to`. */
+uint32_t jr_extend_bounds(const double a[JR_ARC], const double from[JR_VEC3],
+    const double to[JR_VEC3], double b[JR_BOUNDS]);
+
+/* How many chords a full turn of a circle takes to stay within `chord` of it, at least 12 and at
+   most 64. */
+uint32_t jr_per_turn(double radius, double chord, double out[1]);
+
+/* Writes the points of the arc a strictly between `from` and `to`, for as many chords a turn as
+   `jr_per_turn` says, three numbers each from the start of `row`, and how many numbers these are to
+   `written`. */
+uint32_t jr_inner_points(const double a[JR_ARC], const double from[JR_VEC3],
+    const double to[JR_VEC3], double chord, double *row, size_t row_length, uint64_t written[1]);
+
+/* ---- Developments */
+
+/* The unit vector away from the axis of the development at u. */
+uint32_t jr_development_radial(const double dev[JR_DEVELOPMENT], double u, double out[JR_VEC3]);
+
+/* The point at p = (u, v) of the development, r away from its axis. */
+uint32_t jr_development_point(const double dev[JR_DEVELOPMENT], const double p[JR_VEC2], double r,
+    double out[JR_VEC3]);
+
+/* How the point at p of the development, r away from its axis, moves as p moves by d. */
+uint32_t jr_development_along(const double dev[JR_DEVELOPMENT], const double p[JR_VEC2],
+    const double d[JR_VEC2], double r, double out[JR_VEC3]);
+
+/* The u and v of the point q in the development, u within half a turn of `near`, and the distance
+   of q from its axis. */
+uint32_t jr_development_unroll(const double dev[JR_DEVELOPMENT], const double q[JR_VEC3],
+    double near, double out[3]);
+
+/* The development moved by m. */
+uint32_t jr_development_moved(const double dev[JR_DEVELOPMENT], const double m[JR_RIGID],
+    double out[JR_DEVELOPMENT]);
+
+/* ---- Waves, meets and traces */
+
+/* The v of the wave w at u and its first and second derivatives, the neutral radius being n. */
+uint32_t jr_wave_at(const double w[JR_WAVE], double u, double n, double out[3]);
+
+/* The least and the greatest v of the wave w from u0 to u1, the neutral radius being n. */
+uint32_t jr_wave_range(const double w[JR_WAVE], double u0, double u1, double n, double out[2]);
+
+/* The point of the meet m on the generatrix at phi and its first and second derivatives, the
+   neutral radius being n. */
+uint32_t jr_meet_point(const double m[JR_MEET], uint32_t turn, double phi, double n, double out[9]);
+
+/* The v of the trace t at u, the neutral radius being n; 255 for a meet with `turn`, which has
+   none. */
+uint32_t jr_trace_v(const double t[JR_TRACE], uint32_t kind, double u, double n, double out[1]);
+
+/* ---- Pieces of a development */
+
+/* The box of the piece w in its development: the least and the greatest u, the least and the
+   greatest v. */
+uint32_t jr_piece_uv_box(const double w[JR_PIECE], uint32_t arc, uint32_t trace, double out[4]);
+
+/* How many chords through the piece w stay within `deviation` of it in its development. */
+uint32_t jr_piece_polyline(const double w[JR_PIECE], uint32_t arc, uint32_t trace, double deviation,
+    uint64_t out[1]);
+
+/* The point (u, v) of the piece w at t, which is 0 at its start and 1 at its end, and its
+   derivative. */
+uint32_t jr_piece_at(const double w[JR_PIECE], uint32_t arc, uint32_t trace, double t,
+    double out[4]);
+
+/* The second derivative of the piece w at t. */
+uint32_t jr_piece_second(const double w[JR_PIECE], uint32_t arc, uint32_t trace, double t,
+    double out[2]);
+
+/* The unit normal of the wall over the piece w at p, r away from the axis: to the left of the way
+   that the piece runs. */
+uint32_t jr_piece_normal(const double w[JR_PIECE], uint32_t arc, uint32_t trace,
+    const double p[JR_VEC2], double r, double out[JR_VEC3]);
+
+/* The radius of the piece w, 0 where it is no arc, the angle that it turns, and its length. */
+uint32_t jr_piece_measure(const double w[JR_PIECE], uint32_t arc, uint32_t trace, double out[3]);
+
+/* How many parts the piece w is integrated over, none of which turns more than an eighth of a
+   circle. */
+uint32_t jr_piece_quadrature_pieces(const double w[JR_PIECE], uint32_t arc, uint32_t trace,
+    uint64_t out[1]);
+
+/* How many chords within `chord` of it draw the piece w, r away from the axis. */
+uint32_t jr_piece_chords(const double w[JR_PIECE], uint32_t arc, uint32_t trace, double r,
+    double chord, uint64_t out[1]);
+
+/* ---- Frames of cones */
+
+/* The frame of the cone c, the same whichever side the body is on. */
+uint32_t jr_cone_frame(const double c[JR_CONE], double out[JR_FRAME]);
+
+/* The angle of the point p about the axis of the frame f, -pi to pi. */
+uint32_t jr_frame_angle(const double f[JR_FRAME], const double p[JR_VEC3], double out[1]);
+
+/* The point at the angle theta about the axis of the frame f, z along it and r away from it. */
+uint32_t jr_frame_point(const double f[JR_FRAME], double theta, double z, double r,
+    double out[JR_VEC3]);
+
+/* ---- What is integrated over faces */
+
+/* Corrects the sums `acc` of a plane face, o being their point and n the face's unit normal, for an
+   edge that is no chord from u to v but the arc a about k. */
+uint32_t jr_segment(double acc[JR_SUMS], const double a[JR_ARC], const double k[JR_VEC3],
+    const double u[JR_VEC3], const double v[JR_VEC3], const double n[JR_VEC3],
+    const double o[JR_VEC3]);
+
+/* Opens the running sums of a face on the cone c, o being their point. */
+uint32_t jr_revolution_open(const double c[JR_CONE], const double o[JR_VEC3],
+    double running[JR_SUMS]);
+
+/* Adds the arc a from u to v, an edge of the face on the cone c, to the running sums, o being their
+   point. */
+uint32_t jr_revolution_add_arc(const double c[JR_CONE], const double o[JR_VEC3],
+    const double a[JR_ARC], const double u[JR_VEC3], const double v[JR_VEC3],
+    double running[JR_SUMS]);
+
+/* Adds the piece w, an edge of the face on the cone c, to the running sums, o being their point. */
+uint32_t jr_revolution_add_piece(const double c[JR_CONE], const double o[JR_VEC3],
+    const double w[JR_PIECE], uint32_t arc, uint32_t trace, double running[JR_SUMS]);
+
+/* Adds the running sums of a face on the cone c, with the body inside where `convex`, to the sums
+   `acc`. */
+uint32_t jr_revolution_close(const double c[JR_CONE], bool convex, const double running[JR_SUMS],
+    double acc[JR_SUMS]);
+
+/* Adds the wall over the piece w, from r0 to r1 away from the axis, to the sums `acc`, o being
+   their point. */
+uint32_t jr_wall(double acc[JR_SUMS], const double w[JR_PIECE], uint32_t arc, uint32_t trace,
+    double r0, double r1, const double o[JR_VEC3]);
+
+#ifdef __cplusplus
+}
+#endif
+
+#endif
