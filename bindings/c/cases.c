@@ -1,0 +1,241 @@
+/* Calls every function through the header on a case that can be worked out by hand, and says where
+   the answer is another one. Refused calls must leave what they are lent as it was. */
+#include <juniperreef.h>
+#include <math.h>
+#include <stdarg.h>
+#include <stdio.h>
+
+#define PI 3.141592653589793
+#define UNTOUCHED 77.0
+#define LENT 12
+
+static double out[LENT];
+static uint64_t whole[1];
+static int cases, wrong;
+
+static void number(int line, double got, double due)
+{
+    cases++;
+    if (!(fabs(got - due) <= 1e-11 * (1 + fabs(due)))) {
+        printf("cases.c:%d: %.17g is due, not %.17g\n", line, due, got);
+        wrong++;
+    }
+}
+
+static void answered(int line, uint32_t got, uint32_t due)
+{
+    cases++;
+    if (got != due) {
+        printf("cases.c:%d: answer %u is due, not %u %s\n", line, (unsigned)due, (unsigned)got, jr_name(got));
+        wrong++;
+    }
+}
+
+/* Of `out` so many numbers are due, and the rest is untouched; then all of it is made so. */
+static void written(int line, uint32_t got, int count, ...)
+{
+    va_list due;
+    va_start(due, count);
+    answered(line, got, JR_OK);
+    for (int k = 0; k < LENT; k++) {
+        number(line, out[k], k < count ? va_arg(due, double) : UNTOUCHED);
+        out[k] = UNTOUCHED;
+    }
+    va_end(due);
+}
+
+static void refused(int line, uint32_t got, uint32_t due)
+{
+    answered(line, got, due);
+    for (int k = 0; k < LENT; k++)
+        number(line, out[k], UNTOUCHED);
+}
+
+static void counted(int line, uint32_t got, uint64_t due)
+{
+    answered(line, got, JR_OK);
+    number(line, (double)whole[0], (double)due);
+}
+
+/* What a call adds to, put into `out`. */
+static double *old(int count, ...)
+{
+    va_list numbers;
+    va_start(numbers, count);
+    for (int k = 0; k < count; k++)
+        out[k] = va_arg(numbers, double);
+    va_end(numbers);
+    return out;
+}
+
+#define NUMBER(got, due) number(__LINE__, got, due)
+#define WRITTEN(call, ...) written(__LINE__, call, __VA_ARGS__)
+#define REFUSED(call, due) refused(__LINE__, call, due)
+#define COUNTED(call, due) counted(__LINE__, call, due)
+#define NO_SUMS old(8, 0.0, 0.0, 0.0, 0.0, 0.0, 0.0, 0.0, 0.0)
+
+static const double zero[3] = {0, 0, 0}, x[3] = {1, 0, 0}, y[3] = {0, 1, 0}, z[3] = {0, 0, 1};
+
+static void numbers(void)
+{
+    NUMBER(jr_sqrt(2.25), 1.5);
+    NUMBER(jr_ceil(1.25), 2);
+    NUMBER(jr_round(-2.5), -3);
+    NUMBER(jr_atan2(1, 0), PI / 2);
+    NUMBER(jr_acos(-1), PI);
+    NUMBER(jr_hypot(3, 4), 5);
+    WRITTEN(jr_sin(PI / 6, out), 1, 0.5);
+    WRITTEN(jr_sincos(PI / 6, out), 2, 0.5, jr_sqrt(0.75));
+    REFUSED(jr_sin(2e6, out), JR_ANGLE_TOO_LARGE);
+}
+
+static void vectors(void)
+{
+    const double a[3] = {1, 2, 3}, b[3] = {4, -7, 6}, m[3] = {1048576, 0, 0}, far[3] = {1048577, 0, 0};
+    WRITTEN(jr_dot(a, b, out), 1, 8.0);
+    WRITTEN(jr_cross(a, b, out), 3, 33.0, 6.0, -15.0);
+    WRITTEN(jr_sum(a, b, out), 3, 5.0, -5.0, 9.0);
+    WRITTEN(jr_difference(a, b, out), 3, -3.0, 9.0, -3.0);
+    WRITTEN(jr_negation(a, out), 3, -1.0, -2.0, -3.0);
+    WRITTEN(jr_times(a, 2, out), 3, 2.0, 4.0, 6.0);
+    COUNTED(jr_dominant_axis(b, whole), 1);
+    WRITTEN(jr_negation(m, out), 3, -1048576.0, 0.0, 0.0);
+    REFUSED(jr_negation(far, out), JR_OUT_OF_RANGE);
+}
+
+static void motions(void)
+{
+    const double axis[3] = {0, 0, 2}, at[3] = {1, 2, 3}, back[3] = {-1, 0, 0};
+    double m[JR_RIGID];
+    WRITTEN(jr_rotation(axis, PI / 2, out), 12, 0.0, -1.0, 0.0, 1.0, 0.0, 0.0, 0.0, 0.0, 1.0, 0.0, 0.0, 0.0);
+    WRITTEN(jr_frame(at, y, back, z, out), 12, 0.0, -1.0, 0.0, 1.0, 0.0, 0.0, 0.0, 0.0, 1.0, 1.0, 2.0, 3.0);
+    answered(__LINE__, jr_frame(at, y, back, z, m), JR_OK);
+    WRITTEN(jr_apply(m, x, out), 3, 1.0, 3.0, 3.0);
+    WRITTEN(jr_apply_vector(m, x, out), 3, 0.0, 1.0, 0.0);
+}
+
+static void arcs(void)
+{
+    const double v[3] = {0, 3, 4}, o2[2] = {0, 0}, a2[2] = {1, 0}, b2[2] = {0, 1};
+    const double a[JR_ARC] = {0, 0, 0, 0, 0, 1, 5}, from[3] = {5, 0, 0}, to[3] = {0, 5, 0};
+    double row[JR_ARC_ROW];
+    WRITTEN(jr_unit(v, out), 3, 0.0, 0.6, 0.8);
+    REFUSED(jr_unit(zero, out), JR_NOT_FINITE);
+    WRITTEN(jr_turn(o2, true, a2, b2, out), 1, PI / 2);
+    WRITTEN(jr_turn(o2, false, a2, b2, out), 1, -1.5 * PI);
+    WRITTEN(jr_reversed(a, out), 7, 0.0, 0.0, 0.0, 0.0, 0.0, -1.0, 5.0);
+    WRITTEN(jr_sweep(a, from, to, out), 1, PI / 2);
+    WRITTEN(jr_sweep(a, from, from, out), 1, 2 * PI);
+    WRITTEN(jr_at(a, from, PI / 2, out), 3, 0.0, 5.0, 0.0);
+    WRITTEN(jr_extend_bounds(a, to, from, old(6, -6.0, 0.0, 0.0, 1.0, 0.0, 0.5)), 6, -6.0, -5.0, 0.0, 5.0, 5.0, 0.5);
+    answered(__LINE__, jr_extend_bounds(a, to, from, old(6, 0.0, 0.0, 0.0, NAN, 0.0, 0.0)), JR_BAD_BOX_OR_SUMS);
+    old(6, UNTOUCHED, UNTOUCHED, UNTOUCHED, UNTOUCHED, UNTOUCHED, UNTOUCHED);
+    WRITTEN(jr_per_turn(5, 5, out), 1, 12.0);
+    WRITTEN(jr_per_turn(5, 0, out), 1, 64.0);
+    REFUSED(jr_per_turn(5, -1, out), JR_BAD_TOLERANCE);
+    COUNTED(jr_inner_points(a, from, from, 5, row, JR_ARC_ROW, whole), 33);
+    COUNTED(jr_inner_points(a, from, from, 0, row, JR_ARC_ROW, whole), JR_ARC_ROW);
+    NUMBER(row[3 * 31], -5);
+    answered(__LINE__, jr_inner_points(a, from, from, 0, row, JR_ARC_ROW - 1, whole), JR_ROW_TOO_SHORT);
+    COUNTED(jr_inner_points(a, from, to, 5, out, 6, whole), 6);
+    WRITTEN(JR_OK, 6, 5 * jr_sqrt(0.75), 2.5, 0.0, 2.5, 5 * jr_sqrt(0.75), 0.0);
+}
+
+static void developments(void)
+{
+    const double dev[JR_DEVELOPMENT] = {0, 0, 0, 0, 0, 1, 1, 0, 0, 10};
+    const double flat[JR_DEVELOPMENT] = {0, 0, 0, 0, 0, 1, 1, 0, 0, 0};
+    const double m[JR_RIGID] = {0, -1, 0, 1, 0, 0, 0, 0, 1, 1, 2, 3};
+    const double p[2] = {5 * PI, 3}, d[2] = {1, 2}, q[3] = {0, 4, 3};
+    WRITTEN(jr_development_radial(dev, 5 * PI, out), 3, 0.0, 1.0, 0.0);
+    WRITTEN(jr_development_point(dev, p, 4, out), 3, 0.0, 4.0, 3.0);
+    WRITTEN(jr_development_along(dev, p, d, 20, out), 3, -2.0, 0.0, 2.0);
+    WRITTEN(jr_development_unroll(dev, q, 20 * PI, out), 3, 25 * PI, 3.0, 4.0);
+    WRITTEN(jr_development_moved(dev, m, out), 10, 1.0, 2.0, 3.0, 0.0, 0.0, 1.0, 0.0, 1.0, 0.0, 10.0);
+    REFUSED(jr_development_radial(flat, 0, out), JR_NEUTRAL_NOT_POSITIVE);
+}
+
+static void traces(void)
+{
+    const double wave[JR_WAVE] = {2, 3, 0}, cut[JR_TRACE] = {2, 3, 0};
+    const double end[JR_TRACE] = {0, 0, 20, 1, 0, 0, 10, 1, 0, 0};
+    const double hole[JR_MEET] = {20, 0, 0, -1, 0, 0, 3, 10, 0, 2 * PI};
+    const double r = jr_sqrt(91);
+    WRITTEN(jr_wave_at(wave, 0, 10, out), 3, 5.0, 0.0, -0.03);
+    WRITTEN(jr_wave_range(wave, 0, 10 * PI, 10, out), 2, -1.0, 5.0);
+    WRITTEN(jr_meet_point(end, JR_TURN_NONE, 0, 5, out), 9, 5.0, 0.0, 10.0, 0.0, 5.0, 0.0, -5.0, 0.0, 2.5);
+    WRITTEN(jr_meet_point(hole, JR_TURN_ANGLES, 0, 10, out), 9, r, -3.0, 0.0, 0.0, 0.0, 3.0, 9 / r, 3.0, 0.0);
+    REFUSED(jr_meet_point(hole, JR_TURN_ANGLES + 1, 0, 10, out), JR_UNKNOWN_TAG);
+    WRITTEN(jr_trace_v(cut, JR_TRACE_WAVE, 0, 10, out), 1, 5.0);
+    WRITTEN(jr_trace_v(end, JR_TRACE_MEET, 0, 5, out), 1, 10.0);
+    REFUSED(jr_trace_v(end, JR_TRACE_MEET_TURN, 0, 5, out), JR_NONE);
+    REFUSED(jr_trace_v(end, JR_TRACE_NONE, 0, 5, out), JR_UNKNOWN_TAG);
+    REFUSED(jr_trace_v(end, JR_TRACE_MEET_TURN + 1, 0, 5, out), JR_UNKNOWN_TAG);
+    REFUSED(jr_trace_v(end, JR_TRACE_MEET, 10 * PI, 20, out), JR_NOT_FINITE);
+}
+
+/* Of a sheet with neutral radius 10: a segment, an arc of radius 5, a level wave. */
+static const double line[JR_PIECE] = {0, 0, 0, 0, 0, 1, 1, 0, 0, 10, 0, 0, 8, 4};
+static const double round5[JR_PIECE] = {0, 0, 0, 0, 0, 1, 1, 0, 0, 10, 5, 0, 0, 5};
+static const double level[JR_PIECE] = {0, 0, 0, 0, 0, 1, 1, 0, 0, 10, 0, 2, 8, 2, 0, 0, 2};
+
+static void pieces(void)
+{
+    const double p[2] = {5 * PI, 0};
+    WRITTEN(jr_piece_uv_box(line, JR_ARC_NONE, JR_TRACE_NONE, out), 4, 0.0, 8.0, 0.0, 4.0);
+    WRITTEN(jr_piece_uv_box(round5, JR_ARC_CCW, JR_TRACE_NONE, out), 4, -5.0, 5.0, -5.0, 5.0);
+    COUNTED(jr_piece_polyline(line, JR_ARC_NONE, JR_TRACE_NONE, 1, whole), 1);
+    COUNTED(jr_piece_polyline(level, JR_ARC_NONE, JR_TRACE_WAVE, 1, whole), 2);
+    WRITTEN(jr_piece_at(line, JR_ARC_NONE, JR_TRACE_NONE, 0.25, out), 4, 2.0, 1.0, 8.0, 4.0);
+    WRITTEN(jr_piece_second(round5, JR_ARC_CCW, JR_TRACE_NONE, 0, out), 2, -5 * PI * PI / 4, 0.0);
+    WRITTEN(jr_piece_normal(level, JR_ARC_NONE, JR_TRACE_NONE, p, 10, out), 3, 0.0, 0.0, 1.0);
+    WRITTEN(jr_piece_measure(round5, JR_ARC_CCW, JR_TRACE_NONE, out), 3, 5.0, PI / 2, 2.5 * PI);
+    WRITTEN(jr_piece_measure(round5, JR_ARC_CW, JR_TRACE_NONE, out), 3, 5.0, 1.5 * PI, 7.5 * PI);
+    COUNTED(jr_piece_quadrature_pieces(round5, JR_ARC_CW, JR_TRACE_NONE, whole), 6);
+    COUNTED(jr_piece_chords(round5, JR_ARC_CW, JR_TRACE_NONE, 10, 10, whole), 9);
+    REFUSED(jr_piece_measure(level, JR_ARC_CCW, JR_TRACE_WAVE, out), JR_ARC_AND_TRACE);
+    REFUSED(jr_piece_measure(level, JR_ARC_CW + 1, JR_TRACE_NONE, out), JR_UNKNOWN_TAG);
+    REFUSED(jr_piece_measure(level, JR_ARC_NONE, JR_TRACE_MEET_TURN + 1, out), JR_UNKNOWN_TAG);
+}
+
+static void faces(void)
+{
+    const double c[JR_CONE] = {0, 0, 0, 0, 0, 1, 10, 0}, taper[JR_CONE] = {0, 0, 0, 0, 0, 1, 10, 1};
+    const double f[JR_FRAME] = {0, 0, 1, 0, 0, 0, 1, 0, 0, 0, 1, 0}, p[3] = {0, 7, 1}, down[3] = {0, 0, -1};
+    const double half[JR_ARC] = {0, 0, 0, 0, 0, 1, 2}, u[3] = {2, 0, 0}, v[3] = {-2, 0, 0};
+    const double rim[JR_ARC] = {0, 0, 4, 0, 0, -1, 10}, at[3] = {10, 0, 4};
+    const double top[JR_PIECE] = {0, 0, 0, 0, 0, 1, 1, 0, 0, 10, 10, 4, 0, 4};
+    const double cut[JR_PIECE] = {0, 0, 0, 0, 0, 1, 1, 0, 0, 10, 0, 0, 10, 0};
+    double side[JR_SUMS], s = 0, k = 0;
+    answered(__LINE__, jr_sincos(1, out), JR_OK);
+    s = out[0], k = 1 - out[1];
+    old(2, UNTOUCHED, UNTOUCHED);
+    WRITTEN(jr_cone_frame(c, out), 12, 0.0, 0.0, 1.0, 0.0, 0.0, 0.0, 1.0, 0.0, 0.0, 0.0, 1.0, 0.0);
+    WRITTEN(jr_frame_angle(f, p, out), 1, PI / 2);
+    WRITTEN(jr_frame_point(f, PI / 2, 3, 4, out), 3, 0.0, 4.0, 3.0);
+    WRITTEN(jr_segment(NO_SUMS, half, z, u, v, z, down), 8, 4 * PI, 0.0, 32.0, 12 * PI, 0.0, 0.0, 0.0, 2 * PI);
+    WRITTEN(jr_revolution_open(c, zero, out), 8, 0.0, 0.0, 0.0, 0.0, 0.0, 0.0, 0.0, 0.0);
+    WRITTEN(jr_revolution_add_arc(c, zero, rim, at, at, NO_SUMS), 8, 1600 * PI, 0.0, 0.0, 9600 * PI, 80 * PI, 0.0, 0.0, 0.0);
+    WRITTEN(jr_revolution_add_piece(c, zero, top, JR_ARC_NONE, JR_TRACE_NONE, NO_SUMS), 8, 800.0, 24000 * s, 24000 * k, 4800.0, 40.0, 40 * s, 40 * k, 0.0);
+    for (int q = 0; q < JR_SUMS; q++)
+        side[q] = q + 1;
+    WRITTEN(jr_revolution_close(c, false, side, NO_SUMS), 8, 1.0, 2.0, 3.0, 4.0, -5.0, 6.0, 7.0, 8.0);
+    WRITTEN(jr_wall(NO_SUMS, cut, JR_ARC_NONE, JR_TRACE_NONE, 9, 11, down), 8, 40.0, 1204 * s, 1204 * k, 120.0, 20.0, 0.0, 0.0, 20.0);
+    answered(__LINE__, jr_revolution_add_piece(taper, zero, top, JR_ARC_NONE, JR_TRACE_NONE, NO_SUMS), JR_PIECE_ON_CONE);
+}
+
+int main(void)
+{
+    for (int k = 0; k < LENT; k++)
+        out[k] = UNTOUCHED;
+    numbers();
+    vectors();
+    motions();
+    arcs();
+    developments();
+    traces();
+    pieces();
+    faces();
+    printf("%d numbers and answers, %d wrong\n", cases, wrong);
+    return wrong != 0;
+}
