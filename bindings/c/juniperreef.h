@@ -4,21 +4,21 @@
    Made by scripts/make_header from the sources; do not edit.
 
    A record is an array of numbers, laid out as said below. A function that answers by a uint32_t
-   answers JR_OK, and what it says is written, or the number of a refusal or of no result, and nothing
-   is written. Every function takes every bit pattern of its numbers and finishes. Axes and normals are
-   meant to have length 1; nothing tests that, and what comes out is the formula's.
+   answers JR_OK, the result being written, or another of the numbers below, nothing being written.
+   Every function takes every bit pattern of its numbers and finishes. Axes and normals are meant to
+   have length 1; nothing tests that, and what comes out is the formula's.
 
    To know before the first call:
-   - No pointer is null, and an array has at least the places in its brackets, read or not; a compiler
-     sees that at best where it sees the array. An array that is written overlaps no other array of the
-     same call: to move a point in place, copy it first.
-   - A function keeps nothing, allocates nothing and prints nothing; none aborts, throws or jumps. Any
-     thread may call at any time. Of the C library the archive needs memcpy and memset, and no -lm.
-   - Results are those of the floating-point environment that C starts a program with: to nearest, no
-     subnormal flushed. fesetround changes that, and so does linking by gcc with -ffast-math or -Ofast,
-     for the whole program; what is proved does not hold there.
-   - The archive is for Linux on x86-64, any processor of that kind, and position-independent: it links
-     into programs and shared libraries alike. All names that it shows to others begin with jr_. */
+   - No pointer is null, and an array has at least the places in its brackets, read or not; at best a
+     compiler sees that where it sees the array. An array that is written overlaps no other array of
+     the same call: to move a point in place, copy it first.
+   - A function keeps nothing, allocates nothing and prints nothing; none aborts, throws or jumps.
+     Any thread may call at any time. Of the C library the archive needs memcpy and memset, no -lm.
+   - Results are those of the floating-point environment that C starts a program with: to nearest,
+     no subnormal flushed. fesetround changes that, and so does linking by gcc with -ffast-math or
+     -Ofast, for the whole program; what is proved does not hold there.
+   - The archive is for Linux on x86-64, any processor of that kind, and position-independent: it
+     links into programs and shared libraries alike. The names that it shows to others begin with jr_. */
 
 #ifndef JUNIPERREEF_H
 #define JUNIPERREEF_H
