@@ -9,16 +9,17 @@
    have length 1; nothing tests that, and what comes out is the formula's.
 
    To know before the first call:
-   - No pointer is null, and an array has at least the places in its brackets, read or not; at best a
-     compiler sees that where it sees the array. An array that is written overlaps no other array of
-     the same call: to move a point in place, copy it first.
+   - No pointer is null, and an array has at least the places in its brackets, read or not; a
+     compiler sees that at best where it sees the array. An array that is written overlaps no other
+     array of the same call: to move a point in place, copy it first.
    - A function keeps nothing, allocates nothing and prints nothing; none aborts, throws or jumps.
      Any thread may call at any time. Of the C library the archive needs memcpy and memset, no -lm.
    - Results are those of the floating-point environment that C starts a program with: to nearest,
      no subnormal flushed. fesetround changes that, and so does linking by gcc with -ffast-math or
      -Ofast, for the whole program; what is proved does not hold there.
    - The archive is for Linux on x86-64, any processor of that kind, and position-independent: it
-     links into programs and shared libraries alike. The names that it shows to others begin with jr_. */
+     links into programs and shared libraries alike. Its names begin with jr_, those here with jr_
+     and JR_. */
 
 #ifndef JUNIPERREEF_H
 #define JUNIPERREEF_H
