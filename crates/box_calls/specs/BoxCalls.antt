@@ -21,7 +21,7 @@ use Rattle.curves.specs.Laws as curves-laws
 pub data Edge : Type 0 where
   -- `Arc::extend_bounds`: an arc and its two ends
   ArcEdge : Arc → Vec3 → Vec3 → Edge
-  -- `Curve::extended`: a curve, an arc or a piece, and two ends
+  -- `Curve::extend_bounds`: a curve, an arc or a piece, and two ends
   CurveEdge : Curve → Vec3 → Vec3 → Edge
 
 -- the tests of what was handed in

@@ -14,9 +14,13 @@ use Rattle.boxes.specs.declared.Bounds.{Bounds}
 use Rattle.boxes.specs.Boxes.{free, widenedBy, passed, tried, boxCall, Sound}
 use Rattle.boxes.specs.Laws.{call-is}
 use Rattle.extremes.specs.Sound as arcs-sound
+use Rattle.arcs.specs.declared.Arc.{Arc}
+use Rattle.arcs.specs.Entries.{points}
+use Rattle.curve_parts.specs.Parts.{pieceC}
 use Rattle.curve_parts.specs.Laws.{piece-sound}
 use Rattle.curves.specs.declared.Curve.{Curve}
 use Rattle.curves.specs.declared.Curve.the-variants as curve
+use Rattle.curves.specs.declared.RolledAt.{RolledAt}
 use Rattle.curves.specs.Curves.{pointsC}
 use Rattle.curves.specs.Entries.{tests, handed, extendDue}
 
@@ -25,6 +29,15 @@ pub points-sound : (c : Curve) (from to : Vec3) → Sound (pointsC c from to)
 unfolding pointsC
 points-sound (curve.Arc a) from to = arcs-sound.points-sound (a .center) (a .axis) (a .radius) from to
 points-sound (curve.Rolled w) from to = piece-sound (w .piece) (w .radius)
+
+-- the points of a curve that is known to be an arc, or a piece
+pub points-arc : {c : Curve} {a : Arc} → c ≡ curve.Arc a → (from to : Vec3) → pointsC c from to ≡ points a from to
+unfolding pointsC
+points-arc e from to = ap (λ (d : Curve). pointsC d from to) e
+
+pub points-piece : {c : Curve} {w : RolledAt} → c ≡ curve.Rolled w → (from to : Vec3) → pointsC c from to ≡ pieceC (w .piece) (w .radius)
+unfolding pointsC
+points-piece e from to = ap (λ (d : Curve). pointsC d from to) e
 
 -- the tests of what is handed in come first: of the curve, then of the box
 pub extend-is : (c : Curve) (from to : Vec3) (b : Bounds)

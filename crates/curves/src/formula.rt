@@ -1,17 +1,12 @@
 // A curve's formulas on numbers of any size: those of its arc or of its piece.
 ghost use mathlib.Core.Path.{_≡_};
-ghost use Rattle.checked.specs.Checked.{first};
-ghost use Rattle.boxes.specs.Boxes.{widenedBy};
-ghost use Rattle.curves.specs.Curves.{reversedC, movedC, pointsC};
+ghost use Rattle.curves.specs.Curves.{reversedC, movedC};
 use crate::CheckedCurve;
 use crate::Curve;
 use crate::RolledAt;
-use boxes::CheckedBounds;
 use curve_parts::moved_arc;
 use curve_parts::moved_piece;
-use curve_parts::with_piece;
 use motions::Rigid;
-use vectors::Vec3;
 
 pub fn reversed(c: Curve) -> CheckedCurve
     ensures refusal { λ r. ⌜ r .refusal ≡ reversedC c .refusal ⌝ }
@@ -64,20 +59,6 @@ pub fn moved(c: Curve, m: Rigid) -> CheckedCurve
                     radius: w.radius,
                 }),
             }
-        }
-    }
-}
-
-// The box widened by the curve, after what was met on the way to the box.
-pub fn extended(c: Curve, from: Vec3, to: Vec3, b: CheckedBounds) -> CheckedBounds
-    ensures refusal { λ r. ⌜ r .refusal ≡ first (b .refusal) (pointsC c from to .refusal) ⌝ }
-    ensures value { λ r. ⌜ r .value ≡ widenedBy (b .value) (pointsC c from to .value) ⌝ }
-{
-    match c {
-        Curve::Arc(a) => extremes::extended(a.center, a.axis, a.radius, from, to, b),
-        Curve::Rolled(w) => {
-            let p = w.piece;
-            with_piece(p, w.radius, b)
         }
     }
 }

@@ -11,6 +11,7 @@ use boxes::Widened;
 use checked::BAD_BOX_OR_SUMS;
 use checked::is_within;
 use curve_parts::tried_arc;
+use curve_parts::with_piece;
 use motions::Rigid;
 use motions::is_within_rigid;
 use pieces::Rolled;
@@ -122,15 +123,24 @@ impl Curve {
         let n = self.tried(is_within3(from) & is_within3(to), true);
         if n == 0 {
             if bounds.is_free() {
-                boxes::settle(formula::extended(
-                    self,
-                    from,
-                    to,
-                    CheckedBounds {
-                        refusal: 0,
-                        value: bounds,
-                    },
-                ))
+                let b = CheckedBounds {
+                    refusal: 0,
+                    value: bounds,
+                };
+                match self {
+                    Curve::Arc(a) => boxes::settle(extremes::extended(
+                        a.center,
+                        a.axis,
+                        a.radius,
+                        from,
+                        to,
+                        b,
+                    )),
+                    Curve::Rolled(w) => {
+                        let p = w.piece;
+                        boxes::settle(with_piece(p, w.radius, b))
+                    }
+                }
             } else {
                 Widened::Refused(BAD_BOX_OR_SUMS)
             }
