@@ -5,7 +5,8 @@ Run in the repository. Of two shapes, each in a file of crates/CRATE/src:
   - a store, `pub fn store_X(a: ANSWER, out: &mut [T; n]) -> u32`, a `match` of `Value` (or the like) and `Refused`:
     its two clauses unfold `numberOf`, `after` and `over` of the crate `records`;
   - a C function, `pub extern "C" fn F(..) -> u32`: `let`s that each make one call, then `store_X(CALL(..), out)`; or the same in
-    `if TEST(..) { .. } else { UNKNOWN_TAG }`. What the store ensures, with each call's fact put in, is what the function ensures.
+    `if TEST(..) { .. } else { UNKNOWN_TAG }`. What the store ensures, with each call's fact put in, is what the function ensures. The
+    store may write to several lent arrays: `store_X(CALL(..), out, tags)`.
 The checker judges what is written. `rt fmt` lays it out.
 """
 import os, re, sys
@@ -53,7 +54,8 @@ def store(crate, mod, text):
             [(r, 'unfolding numberOf after over\n', f'({k}, {k})') for r, k in zip(('returns', 'returns-2'), known)])
 
 def exported(crate, mod, text):
-    for fn, params, body in re.findall(r'pub extern "C" fn (\w+)\(([^{}]*?)\)\s*->\s*u32\n.*?\n\{\n(.*?)\n\}\n', text, re.S):
+    for fn, params, said, body in re.findall(r'pub extern "C" fn (\w+)\(([^{}]*?)\)\s*->\s*u32\n(.*?)\n\{\n(.*?)\n\}\n', text, re.S):
+        clauses, used = said.count('ensures '), [w for w in ('numberOf', 'after', 'stored') if re.search(rf'\b{w}\b', said)]
         lent = re.findall(r'(\w+): &mut', params)
         last = re.search(r'^\s*(store_\w+)\(\s*([\w.:]+)\(', body, re.M)
         tests = re.findall(r'if (\w+)\(', body)
@@ -66,18 +68,22 @@ def exported(crate, mod, text):
         order = tests + calls + [last.group(1)]
         fields = numbered(order, dash, lambda n, k: f'{dash(n)}{k}')
         needs = numbered(order, lambda n: dash(n) + '-requires', lambda n, k: f'{dash(n)}-requires-{k}')
-        # one place for each call, and one where a lent array is lent on
-        at, facts = 2, []
+        # one place for each call, and one for each lent array that is lent on; the store takes them all
+        at, facts = 1 + len(lent), []
         for k in reversed(range(len(calls))):
             facts.append('c' + ' .before' * at + f' .{fields[len(tests) + k]} .ensures')
             at += 2 if k < len(lets) and lets[k][1].strip() in lent else 1
-        said = f'simp ({", ".join(facts)}) at (c .{fields[-1]} .ensures)'
-        uses, returns = ['use borrow.Author.Needs.{needs}'], [('returns', '', said)]
+        gives = f'simp ({", ".join(facts)}) at (c .{fields[-1]} .ensures)'
+        uses, returns = ['use borrow.Author.Needs.{needs}'], [('returns', '', gives)]
         if tests:
             known = f'sym (c{" .before" * (at + 1)} .{fields[0]} .ensures) ∙ c{" .before" * at} .if1 .taken'
             unknown = f'simp (sym (c .before .{fields[0]} .ensures) ∙ c .if1 .left)'
-            uses = ['use mathlib.Core.Path.{sym, _∙_}'] + uses + ['use Rattle.records.specs.Records.{numberOf, after}']
-            returns = [('returns', '', f'simp ({known}) ({said})'), ('returns-2', 'unfolding numberOf after\n', f'({unknown}, {unknown})')]
+            uses = ['use mathlib.Core.Path.{sym, _∙_}'] + uses + [f'use Rattle.records.specs.Records.{{{", ".join(w for w in used if w != "stored")}}}']
+            uses += ['use Rattle.piece_stores.specs.Stores.{stored}'] * ('stored' in used)
+            each = unknown
+            for _ in range(clauses - 1):
+                each = f'({unknown}, {each})'
+            returns = [('returns', '', f'simp ({known}) ({gives})'), ('returns-2', f'unfolding {" ".join(used)}\n', each)]
         write(crate, mod, fn, uses, [(n, 'c κs') for n in needs], returns)
 
 crate = sys.argv[1]

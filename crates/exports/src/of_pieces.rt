@@ -3,6 +3,7 @@ ghost use mathlib.Core.Path.{_≡_};
 ghost use Rattle.pieces.specs.Entries as Pieces;
 ghost use Rattle.records.specs.Records.{vec2, alone, ofVec2, ofVec3, numberOf, after, tagDue};
 ghost use Rattle.piece_records.specs.Records.{isPiece, piece, ofPlace, ofMeasure, ofBox};
+ghost use Rattle.piece_stores.specs.Stores.{tagsOf, withPiece, stored};
 use piece_records::is_piece;
 use piece_records::piece_of;
 use piece_records::store_box;
@@ -10,6 +11,7 @@ use piece_records::store_count;
 use piece_records::store_measure;
 use piece_records::store_place;
 use piece_records::store_second;
+use piece_stores::store_piece;
 use records::UNKNOWN_TAG;
 use records::store_vector;
 use records::vec2_of;
@@ -44,6 +46,27 @@ pub extern "C" fn jr_piece_polyline(
     if is_piece(arc, trace) {
         let c = piece_of(w, arc, trace);
         store_count(c.polyline(deviation), out)
+    } else {
+        UNKNOWN_TAG
+    }
+}
+
+// The piece w run the other way, its tags arc and trace in `tags`.
+#[no_mangle]
+pub extern "C" fn jr_piece_reversed(
+    w: &[f64; 26],
+    arc: u32,
+    trace: u32,
+    out: &mut [f64; 26],
+    tags: &mut [u32; 2],
+) -> u32
+    ensures number { λ n. ⌜ n ≡ numberOf (tagDue (isPiece arc trace) (Pieces.reversedDue (piece (now (w .entry)) arc trace))) ⌝ }
+    ensures out { λ _. ⌜ now (out .exit) ≡ stored withPiece (now (out .entry)) (tagDue (isPiece arc trace) (Pieces.reversedDue (piece (now (w .entry)) arc trace))) ⌝ }
+    ensures tags { λ _. ⌜ now (tags .exit) ≡ after tagsOf (now (tags .entry)) (tagDue (isPiece arc trace) (Pieces.reversedDue (piece (now (w .entry)) arc trace))) ⌝ }
+{
+    if is_piece(arc, trace) {
+        let c = piece_of(w, arc, trace);
+        store_piece(c.reversed(), out, tags)
     } else {
         UNKNOWN_TAG
     }

@@ -1,0 +1,28 @@
+use mathlib.Core.Path.{sym, _∙_}
+use borrow.Author.Needs.{needs}
+use Rattle.records.specs.Records.{numberOf, after}
+use Rattle.piece_stores.specs.Stores.{stored}
+use Rattle.exports.proofs.of_curves.jr_curve_reversed.Statement.{statement}
+use Rattle.exports.proofs.of_curves.jr_curve_reversed.Tie as tie
+
+is-curve-requires : tie.Need-is-curve-requires
+is-curve-requires c κs = search needs
+
+curve-of-requires : tie.Need-curve-of-requires
+curve-of-requires c κs = search needs
+
+reversed-requires : tie.Need-reversed-requires
+reversed-requires c κs = search needs
+
+store-curve-requires : tie.Need-store-curve-requires
+store-curve-requires c κs = search needs
+
+returns : tie.Need-returns
+returns c = simp (sym (c .before .before .before .before .before .before .is-curve .ensures) ∙ c .before .before .before .before .before .if1 .taken) (simp (c .before .before .before .reversed .ensures, c .before .before .before .before .curve-of .ensures) at (c .store-curve .ensures))
+
+returns-2 : tie.Need-returns-2
+unfolding numberOf after stored
+returns-2 c = (simp (sym (c .before .is-curve .ensures) ∙ c .if1 .left), (simp (sym (c .before .is-curve .ensures) ∙ c .if1 .left), simp (sym (c .before .is-curve .ensures) ∙ c .if1 .left)))
+
+pub jr-curve-reversed-spec : {M : Type 1} → statement M
+jr-curve-reversed-spec = tie.close (tie.spec is-curve-requires curve-of-requires reversed-requires store-curve-requires returns returns-2)

@@ -1,0 +1,106 @@
+// Curves in space: an arc, or a piece of a development at a radius from its axis.
+ghost use mathlib.Core.Path.{_≡_};
+ghost use Rattle.curves.specs.Entries as Curves;
+ghost use Rattle.records.specs.Records.{vec3, numberOf, after, tagDue};
+ghost use Rattle.arc_records.specs.Records.{rigid, bounds, ofArc, ofBounds};
+ghost use Rattle.trace_records.specs.Records.{someDue};
+ghost use Rattle.piece_stores.specs.Stores.{stored};
+ghost use Rattle.curve_records.specs.Records.{isCurve, curve, withCurve, curveTags};
+use arc_records::bounds_of;
+use arc_records::rigid_of;
+use arc_records::store_bounds;
+use curve_records::curve_of;
+use curve_records::is_curve;
+use curve_records::store_curve;
+use curve_records::store_curve_arc;
+use curve_records::store_moved;
+use records::UNKNOWN_TAG;
+use records::vec3_of;
+
+// The tags of a piece go to `tags`; an arc has none.
+#[no_mangle]
+pub extern "C" fn jr_curve_reversed(
+    c: &[f64; 27],
+    kind: u32,
+    arc: u32,
+    trace: u32,
+    out: &mut [f64; 27],
+    tags: &mut [u32; 2],
+) -> u32
+    ensures number { λ n. ⌜ n ≡ numberOf (tagDue (isCurve kind arc trace) (Curves.reversedDue (curve (now (c .entry)) kind arc trace))) ⌝ }
+    ensures out { λ _. ⌜ now (out .exit) ≡ stored withCurve (now (out .entry)) (tagDue (isCurve kind arc trace) (Curves.reversedDue (curve (now (c .entry)) kind arc trace))) ⌝ }
+    ensures tags { λ _. ⌜ now (tags .exit) ≡ after curveTags (now (tags .entry)) (tagDue (isCurve kind arc trace) (Curves.reversedDue (curve (now (c .entry)) kind arc trace))) ⌝ }
+{
+    if is_curve(kind, arc, trace) {
+        let e = curve_of(c, kind, arc, trace);
+        store_curve(e.reversed(), out, tags)
+    } else {
+        UNKNOWN_TAG
+    }
+}
+
+// Its tags are those that were handed in.
+#[no_mangle]
+pub extern "C" fn jr_curve_moved(
+    c: &[f64; 27],
+    kind: u32,
+    arc: u32,
+    trace: u32,
+    m: &[f64; 12],
+    out: &mut [f64; 27],
+) -> u32
+    ensures number { λ n. ⌜ n ≡ numberOf (tagDue (isCurve kind arc trace) (Curves.movedDue (curve (now (c .entry)) kind arc trace) (rigid (now (m .entry))))) ⌝ }
+    ensures out { λ _. ⌜ now (out .exit) ≡ stored withCurve (now (out .entry)) (tagDue (isCurve kind arc trace) (Curves.movedDue (curve (now (c .entry)) kind arc trace) (rigid (now (m .entry))))) ⌝ }
+{
+    if is_curve(kind, arc, trace) {
+        let e = curve_of(c, kind, arc, trace);
+        let g = rigid_of(m);
+        store_moved(e.moved(g), out)
+    } else {
+        UNKNOWN_TAG
+    }
+}
+
+// A piece is none: NONE.
+#[no_mangle]
+pub extern "C" fn jr_curve_arc(
+    c: &[f64; 27],
+    kind: u32,
+    arc: u32,
+    trace: u32,
+    out: &mut [f64; 7],
+) -> u32
+    ensures number { λ n. ⌜ n ≡ numberOf (tagDue (isCurve kind arc trace) (someDue (Curves.arcDue (curve (now (c .entry)) kind arc trace)))) ⌝ }
+    ensures out { λ _. ⌜ now (out .exit) ≡ after ofArc (now (out .entry)) (tagDue (isCurve kind arc trace) (someDue (Curves.arcDue (curve (now (c .entry)) kind arc trace)))) ⌝ }
+{
+    if is_curve(kind, arc, trace) {
+        let e = curve_of(c, kind, arc, trace);
+        store_curve_arc(e.arc(), out)
+    } else {
+        UNKNOWN_TAG
+    }
+}
+
+#[no_mangle]
+pub extern "C" fn jr_curve_extend_bounds(
+    c: &[f64; 27],
+    kind: u32,
+    arc: u32,
+    trace: u32,
+    from: &[f64; 3],
+    to: &[f64; 3],
+    b: &mut [f64; 6],
+) -> u32
+    ensures number { λ n. ⌜ n ≡ numberOf (tagDue (isCurve kind arc trace) (Curves.extendDue (curve (now (c .entry)) kind arc trace) (vec3 (now (from .entry))) (vec3 (now (to .entry))) (bounds (now (b .entry))))) ⌝ }
+    ensures corners { λ _. ⌜ now (b .exit) ≡ after ofBounds (now (b .entry)) (tagDue (isCurve kind arc trace) (Curves.extendDue (curve (now (c .entry)) kind arc trace) (vec3 (now (from .entry))) (vec3 (now (to .entry))) (bounds (now (b .entry))))) ⌝ }
+{
+    if is_curve(kind, arc, trace) {
+        let e = curve_of(c, kind, arc, trace);
+        let u = vec3_of(from);
+        let v = vec3_of(to);
+        let old = bounds_of(b);
+        store_bounds(e.extended(u, v, old), b)
+    } else {
+        UNKNOWN_TAG
+    }
+}
