@@ -92,6 +92,10 @@ enum {
                             angles */
     JR_TRACE = 10,       /* a wave's three numbers, or a meet's ten */
     JR_PIECE = 26,       /* development; from (2); to (2); the arc's centre (2); trace */
+    JR_CURVE = 27,       /* an arc's seven numbers, or a piece's 26 and its distance from the
+                            axis */
+    JR_SURFACE = 26,     /* a plane's origin and normal, a cylinder's origin, axis and radius, a
+                            cone's eight numbers, or a piece's 26 */
     JR_CONE = 8,         /* origin, axis, radius at the origin, slope; a cylinder has slope 0 */
     JR_FRAME = 12,       /* axis, origin, two unit vectors across the axis */
     JR_SUMS = 8,         /* over a face, about a point: 6 times the volume, 24 times its moment (3),
@@ -122,6 +126,20 @@ enum {
 enum {
     JR_TURN_NONE = 0,
     JR_TURN_ANGLES = 1,
+};
+
+/* The tag `kind` of a curve; an arc's other tags are not read. */
+enum {
+    JR_CURVE_ARC = 0,
+    JR_CURVE_PIECE = 1,
+};
+
+/* The tag `kind` of a surface; the tags `arc` and `trace` are read of a wall only. */
+enum {
+    JR_SURFACE_PLANE = 0,
+    JR_SURFACE_CYLINDER = 1,
+    JR_SURFACE_CONE = 2,
+    JR_SURFACE_WALL = 3,
 };
 
 /* ---- Square root, rounding to whole numbers, and the functions of libm */
@@ -272,6 +290,10 @@ uint32_t jr_piece_uv_box(const double w[JR_PIECE], uint32_t arc, uint32_t trace,
 uint32_t jr_piece_polyline(const double w[JR_PIECE], uint32_t arc, uint32_t trace, double deviation,
     uint64_t out[1]);
 
+/* The piece w run the other way, its tags arc and trace in `tags`. */
+uint32_t jr_piece_reversed(const double w[JR_PIECE], uint32_t arc, uint32_t trace,
+    double out[JR_PIECE], uint32_t tags[2]);
+
 /* The point (u, v) of the piece w at t, which is 0 at its start and 1 at its end, and its
    derivative. */
 uint32_t jr_piece_at(const double w[JR_PIECE], uint32_t arc, uint32_t trace, double t,
@@ -297,6 +319,42 @@ uint32_t jr_piece_quadrature_pieces(const double w[JR_PIECE], uint32_t arc, uint
 /* How many chords within `chord` of it draw the piece w, r away from the axis. */
 uint32_t jr_piece_chords(const double w[JR_PIECE], uint32_t arc, uint32_t trace, double r,
     double chord, uint64_t out[1]);
+
+/* ---- Curves in space: an arc, or a piece of a development at a radius from its axis */
+
+/* The curve c run the other way, its tags arc and trace in `tags` where it is a piece. */
+uint32_t jr_curve_reversed(const double c[JR_CURVE], uint32_t kind, uint32_t arc, uint32_t trace,
+    double out[JR_CURVE], uint32_t tags[2]);
+
+/* The curve c moved by m; its tags stay. */
+uint32_t jr_curve_moved(const double c[JR_CURVE], uint32_t kind, uint32_t arc, uint32_t trace,
+    const double m[JR_RIGID], double out[JR_CURVE]);
+
+/* The arc that the curve c is; JR_NONE for a piece. */
+uint32_t jr_curve_arc(const double c[JR_CURVE], uint32_t kind, uint32_t arc, uint32_t trace,
+    double out[JR_ARC]);
+
+/* The box b widened by the curve c between two points; a piece has its own ends. */
+uint32_t jr_curve_extend_bounds(const double c[JR_CURVE], uint32_t kind, uint32_t arc,
+    uint32_t trace, const double from[JR_VEC3], const double to[JR_VEC3], double b[JR_BOUNDS]);
+
+/* ---- The surfaces of faces: planes, cylinders, cones, and walls over a piece */
+
+/* The plane that the surface s is, its origin and normal; JR_NONE for another surface. */
+uint32_t jr_surface_plane(const double s[JR_SURFACE], uint32_t kind, bool convex, uint32_t arc,
+    uint32_t trace, double out[6]);
+
+/* The cone that the surface s is, a cylinder as one of slope 0; JR_NONE for another surface. */
+uint32_t jr_surface_revolution(const double s[JR_SURFACE], uint32_t kind, bool convex, uint32_t arc,
+    uint32_t trace, double out[JR_CONE]);
+
+/* The surface s moved by m; its tags stay. */
+uint32_t jr_surface_moved(const double s[JR_SURFACE], uint32_t kind, bool convex, uint32_t arc,
+    uint32_t trace, const double m[JR_RIGID], double out[JR_SURFACE]);
+
+/* The unit normal of the surface s at the point p. */
+uint32_t jr_surface_normal_at(const double s[JR_SURFACE], uint32_t kind, bool convex, uint32_t arc,
+    uint32_t trace, const double p[JR_VEC3], double out[JR_VEC3]);
 
 /* ---- Frames of cones */
 

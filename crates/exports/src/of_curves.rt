@@ -17,7 +17,7 @@ use curve_records::store_moved;
 use records::UNKNOWN_TAG;
 use records::vec3_of;
 
-// The tags of a piece go to `tags`; an arc has none.
+// The curve c run the other way, its tags arc and trace in `tags` where it is a piece.
 #[no_mangle]
 pub extern "C" fn jr_curve_reversed(
     c: &[f64; 27],
@@ -39,7 +39,7 @@ pub extern "C" fn jr_curve_reversed(
     }
 }
 
-// Its tags are those that were handed in.
+// The curve c moved by m; its tags stay.
 #[no_mangle]
 pub extern "C" fn jr_curve_moved(
     c: &[f64; 27],
@@ -61,7 +61,7 @@ pub extern "C" fn jr_curve_moved(
     }
 }
 
-// A piece is none: NONE.
+// The arc that the curve c is; JR_NONE for a piece.
 #[no_mangle]
 pub extern "C" fn jr_curve_arc(
     c: &[f64; 27],
@@ -81,6 +81,7 @@ pub extern "C" fn jr_curve_arc(
     }
 }
 
+// The box b widened by the curve c between two points; a piece has its own ends.
 #[no_mangle]
 pub extern "C" fn jr_curve_extend_bounds(
     c: &[f64; 27],

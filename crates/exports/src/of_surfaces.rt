@@ -16,7 +16,7 @@ use surface_records::store_plane;
 use surface_records::store_surface;
 use surface_records::surface_of;
 
-// What is no plane answers NONE.
+// The plane that the surface s is, its origin and normal; JR_NONE for another surface.
 #[no_mangle]
 pub extern "C" fn jr_surface_plane(
     s: &[f64; 26],
@@ -37,7 +37,7 @@ pub extern "C" fn jr_surface_plane(
     }
 }
 
-// What is no surface of revolution answers NONE.
+// The cone that the surface s is, a cylinder as one of slope 0; JR_NONE for another surface.
 #[no_mangle]
 pub extern "C" fn jr_surface_revolution(
     s: &[f64; 26],
@@ -58,7 +58,7 @@ pub extern "C" fn jr_surface_revolution(
     }
 }
 
-// Its tags are those that were handed in.
+// The surface s moved by m; its tags stay.
 #[no_mangle]
 pub extern "C" fn jr_surface_moved(
     s: &[f64; 26],
@@ -81,6 +81,7 @@ pub extern "C" fn jr_surface_moved(
     }
 }
 
+// The unit normal of the surface s at the point p.
 #[no_mangle]
 pub extern "C" fn jr_surface_normal_at(
     s: &[f64; 26],
