@@ -8,6 +8,7 @@
 //!     driver fuzz --program FILE [--count N] [--seed S]     edge files through that program, status 1 on a difference
 //!     driver replay [--count N] [--seed S]                  N answers of each class of each entry, a line each
 //!     driver operations                                     the numbers under which these lines name the entries
+//!     driver answers --only NAME [--count N] [--seed S]     drawn calls and their answers, as binary numbers
 //!     driver arcs [--count N] [--seed S]                    an edge file of that many pipes' arcs
 
 #[allow(dead_code)]
@@ -24,6 +25,7 @@ mod profile_arc;
 use plane::Plane;
 use profile_arc::ProfileArc;
 
+mod answers;
 mod arcs;
 mod bench;
 mod classes;
@@ -118,7 +120,7 @@ fn main() {
     };
     let all = entries();
     let mut entries = all.clone();
-    if mode != "second" {
+    if mode != "second" && mode != "answers" {
         entries.retain(|e| !e.port_name.split(' ').any(|name| missing::MISSING.contains(&name)));
     }
     if let Some(name) = &chosen.only {
@@ -142,6 +144,7 @@ fn main() {
         "fuzz" => fuzz::fuzz(&chosen.program, chosen.count.unwrap_or(1_000_000), chosen.seed, 2),
         "replay" => replay::replay(&all, chosen.count.unwrap_or(15), chosen.seed),
         "operations" => replay::operations(&all),
+        "answers" if entries.len() == 1 => answers::answers(entries[0], chosen.count.unwrap_or(100_000), chosen.seed),
         "arcs" => arcs_file(chosen.count.unwrap_or(1_000_000), chosen.seed),
         _ => {
             eprintln!("driver: unknown mode {mode:?}");
