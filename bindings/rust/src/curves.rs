@@ -1,0 +1,165 @@
+//! Curves of edges.
+
+#[cfg(feature = "alloc")]
+use alloc::{vec, vec::Vec};
+
+use crate::arcs::Arc;
+#[cfg(feature = "alloc")]
+use crate::arcs::{ARC_ROW, points};
+use crate::ffi::{self, put};
+use crate::{Bounds, Refusal, Rigid, Rolled, Vec3};
+
+/// The curve of an edge: an arc, or a piece of a development at a distance from its axis.
+///
+/// The box of a saddle, the end of a branch of radius 30 that is cut to fit a main pipe of radius
+/// 50 whose axis crosses 100 above:
+///
+/// ```
+/// use std::f64::consts::TAU;
+/// use juniperreef::{Bounds, Curve, Development, Meet, Refusal, Rolled, Trace, Vec2, Vec3};
+///
+/// let (x, z) = (Vec3::new(1.0, 0.0, 0.0), Vec3::new(0.0, 0.0, 1.0));
+/// let dev = Development { origin: Vec3::ZERO, axis: z, start: x, neutral: 30.0 };
+/// let origin = Vec3::new(0.0, 0.0, 100.0);
+/// let main = Meet { origin, axis: x, radius: 50.0, own: 1.0, turn: None };
+/// let (from, to) = (Vec2::new(0.0, 50.0), Vec2::new(30.0 * TAU, 50.0));
+/// let piece = Rolled { dev, from, to, arc: None, trace: Some(Trace::Meet(main)) };
+/// let saddle = Curve::Rolled { piece, radius: 30.0 };
+///
+/// let mut bounds = Bounds::EMPTY;
+/// let end = Vec3::new(30.0, 0.0, 50.0);
+/// saddle.extend_bounds(end, end, &mut bounds)?;
+/// // From where the branch meets the main pipe first, 50 below its axis, to where it does last.
+/// assert!((bounds.low.z - 50.0).abs() < 1e-9);
+/// assert!((bounds.high.z - 60.0).abs() < 1e-9);
+/// assert!((bounds.high.x - 30.0).abs() < 1e-9);
+/// # Ok::<(), Refusal>(())
+/// ```
+#[derive(Clone, Copy, Debug, PartialEq)]
+pub enum Curve {
+    /// An arc, from one end of the edge to the other.
+    Arc(Arc),
+    /// A piece of a development, which has ends of its own.
+    Rolled {
+        /// The piece.
+        piece: Rolled,
+        /// Its distance from the axis.
+        radius: f64,
+    },
+}
+
+/// A curve as the library takes it.
+struct Tagged {
+    numbers: [f64; 27],
+    kind: u32,
+    arc: u32,
+    trace: u32,
+}
+
+const ARC: u32 = 0;
+const PIECE: u32 = 1;
+
+impl Curve {
+    /// The same curve run the other way.
+    pub fn reversed(&self) -> Result<Self, Refusal> {
+        let (c, mut tags) = (self.tagged(), [0; 2]);
+        ffi::numbers(|out| {
+            ffi::jr_curve_reversed(&c.numbers, c.kind, c.arc, c.trace, out, &mut tags)
+        })
+        .map(|numbers| Self::of(&numbers, c.kind, tags))
+    }
+
+    /// The curve moved by `m`.
+    pub fn moved(&self, m: &Rigid) -> Result<Self, Refusal> {
+        let (c, m) = (self.tagged(), m.numbers());
+        ffi::numbers(|out| ffi::jr_curve_moved(&c.numbers, c.kind, c.arc, c.trace, &m, out))
+            .map(|numbers| Self::of(&numbers, c.kind, [c.arc, c.trace]))
+    }
+
+    /// The arc, where the curve is one. Numbers of either are tried.
+    pub fn arc(&self) -> Result<Option<&Arc>, Refusal> {
+        let c = self.tagged();
+        let found =
+            ffi::some_numbers(|out| ffi::jr_curve_arc(&c.numbers, c.kind, c.arc, c.trace, out))?;
+        // The library hands the arc on as it is, so the caller gets a view of his own.
+        Ok(match (self, found) {
+            (Self::Arc(a), Some(numbers)) => {
+                debug_assert_eq!(Arc::of(&numbers), *a);
+                Some(a)
+            }
+            _ => None,
+        })
+    }
+
+    /// Writes points between `from` and `to`, for chords that stay within `chord` of the curve, to
+    /// the start of `row`, three numbers each, and gives the part written. The rest of the row
+    /// keeps its content. A piece has ends of its own: there `from` and `to` are tried and not
+    /// used.
+    pub fn inner_points<'row>(
+        &self,
+        from: Vec3,
+        to: Vec3,
+        chord: f64,
+        row: &'row mut [f64],
+    ) -> Result<&'row mut [f64], Refusal> {
+        let (c, [from, to]) = (self.tagged(), [from, to].map(Vec3::to_array));
+        let (kind, arc, trace) = (c.kind, c.arc, c.trace);
+        let written = ffi::count(|written| {
+            let (start, length) = (row.as_mut_ptr(), row.len());
+            // SAFETY: `row` is borrowed for this call alone, and these are its start and length.
+            unsafe {
+                ffi::jr_curve_inner_points(
+                    &c.numbers, kind, arc, trace, &from, &to, chord, start, length, written,
+                )
+            }
+        })?;
+        Ok(&mut row[..written])
+    }
+
+    /// The points of [`Curve::inner_points`] as a `Vec`.
+    #[cfg(feature = "alloc")]
+    pub fn inner_points_vec(&self, from: Vec3, to: Vec3, chord: f64) -> Result<Vec<Vec3>, Refusal> {
+        let mut row = [0.0; ARC_ROW];
+        match (self.inner_points(from, to, chord, &mut row), self) {
+            // A piece of more points than any arc has: as many as it has chords, but for the last.
+            (Err(Refusal::RowTooShort), Self::Rolled { piece, radius }) => {
+                let mut row = vec![0.0; 3 * (piece.chords(*radius, chord)? - 1)];
+                self.inner_points(from, to, chord, &mut row).map(|row| points(row))
+            }
+            (answer, _) => answer.map(|row| points(row)),
+        }
+    }
+
+    /// Widens the box to hold the curve from `from` to `to`. A piece has ends of its own: there
+    /// `from` and `to` are tried and not used, and the box is widened by the two arcs about the
+    /// axis at the ends of the piece's own box along `v`.
+    pub fn extend_bounds(&self, from: Vec3, to: Vec3, bounds: &mut Bounds) -> Result<(), Refusal> {
+        let (c, [from, to]) = (self.tagged(), [from, to].map(Vec3::to_array));
+        bounds.lend(|corners| {
+            ffi::jr_curve_extend_bounds(&c.numbers, c.kind, c.arc, c.trace, &from, &to, corners)
+        })
+    }
+
+    fn tagged(&self) -> Tagged {
+        let mut numbers = [0.0; 27];
+        match self {
+            Self::Arc(a) => {
+                put(&mut numbers, 0, &a.numbers());
+                Tagged { numbers, kind: ARC, arc: 0, trace: 0 }
+            }
+            Self::Rolled { piece, radius } => {
+                let w = piece.tagged();
+                put(&mut numbers, 0, &w.numbers);
+                numbers[26] = *radius;
+                Tagged { numbers, kind: PIECE, arc: w.arc, trace: w.trace }
+            }
+        }
+    }
+
+    fn of(numbers: &[f64; 27], kind: u32, tags: [u32; 2]) -> Self {
+        match kind {
+            ARC => Self::Arc(Arc::of(numbers)),
+            _ => Self::Rolled { piece: Rolled::of(numbers, tags), radius: numbers[26] },
+        }
+    }
+}

@@ -1,0 +1,224 @@
+//! Integrals over faces: volume, centre of mass, area.
+
+use core::borrow::Borrow;
+
+use crate::ffi::{self, part, put};
+use crate::vectors::join;
+use crate::{Arc, Cone, Refusal, Rolled, Vec3};
+
+/// What is integrated over the faces of a body, measured from a point `o` that all calls share.
+/// Over all faces of a closed body, `six_v / 6` is its volume, `o + moment / (4 · six_v)` its
+/// centre of mass, and `area_vector` is 0.
+#[derive(Clone, Copy, Debug, PartialEq, Default)]
+pub struct Integrals {
+    /// Six times the volume between `o` and the faces.
+    pub six_v: f64,
+    /// 24 times the first moment about `o` of that volume.
+    pub moment: Vec3,
+    /// The area.
+    pub area: f64,
+    /// The normals out of the body, summed over the area.
+    pub area_vector: Vec3,
+}
+
+impl Integrals {
+    /// Lends the sums as numbers and takes them back. A refused call leaves the numbers, and so the
+    /// sums, as they were.
+    fn lend(&mut self, call: impl FnOnce(&mut [f64; 8]) -> u32) -> Result<(), Refusal> {
+        let mut numbers = self.numbers();
+        ffi::settle(call(&mut numbers))?;
+        *self = Self::of(&numbers);
+        Ok(())
+    }
+
+    fn numbers(&self) -> [f64; 8] {
+        let mut numbers = [self.six_v; 8];
+        put(&mut numbers, 1, &self.moment.to_array());
+        numbers[4] = self.area;
+        put(&mut numbers, 5, &self.area_vector.to_array());
+        numbers
+    }
+
+    fn of(numbers: &[f64; 8]) -> Self {
+        let [moment, area_vector] = [1, 5].map(|k| part(numbers, k).into());
+        Self { six_v: numbers[0], moment, area: numbers[4], area_vector }
+    }
+}
+
+/// Adds to the sums of a plane face what lies between an arc from `u` to `v`, turning about `k`,
+/// and its chord: so much more than the polygon of the corners where the arc bulges out of the
+/// face, so much less where it bulges in. `n` is the face's normal, of length 1. The area of the
+/// sums is left as it is.
+pub fn segment(
+    acc: &mut Integrals,
+    arc: &Arc,
+    k: Vec3,
+    u: Vec3,
+    v: Vec3,
+    n: Vec3,
+    o: Vec3,
+) -> Result<(), Refusal> {
+    let (arc, [k, u, v, n, o]) = (arc.numbers(), [k, u, v, n, o].map(Vec3::to_array));
+    acc.lend(|sums| ffi::jr_segment(sums, &arc, &k, &u, &v, &n, &o))
+}
+
+/// Coordinates about the axis of a surface of revolution: the direction at the angle `θ` is
+/// `e1·cos θ + e2·sin θ`.
+#[derive(Clone, Copy, Debug, PartialEq)]
+pub struct Frame {
+    /// The direction of the axis.
+    pub axis: Vec3,
+    /// A point of the axis.
+    pub origin: Vec3,
+    /// The direction across the axis at the angle 0.
+    pub e1: Vec3,
+    /// The direction across the axis at a quarter turn.
+    pub e2: Vec3,
+}
+
+/// The frame of a cone or cylinder: `e1` is next to the coordinate axis that lies least along the
+/// cone's own.
+pub fn frame(c: &Cone) -> Result<Frame, Refusal> {
+    ffi::numbers::<12>(|out| ffi::jr_cone_frame(&c.numbers(), out)).map(|numbers| {
+        let [axis, origin, e1, e2] = [0, 3, 6, 9].map(|k| part(&numbers, k).into());
+        Frame { axis, origin, e1, e2 }
+    })
+}
+
+impl Frame {
+    /// The angle of the point `p` about the axis, from −π to π.
+    pub fn angle(&self, p: Vec3) -> Result<f64, Refusal> {
+        ffi::number(|out| ffi::jr_frame_angle(&self.numbers(), &p.to_array(), out))
+    }
+
+    /// The point at the angle `theta`, at `z` along the axis and `r` from it.
+    pub fn point(&self, theta: f64, z: f64, r: f64) -> Result<Vec3, Refusal> {
+        ffi::numbers(|out| ffi::jr_frame_point(&self.numbers(), theta, z, r, out)).map(Vec3::from)
+    }
+
+    fn numbers(&self) -> [f64; 12] {
+        join([self.axis, self.origin, self.e1, self.e2])
+    }
+}
+
+/// A curve in the boundary of a face on a surface of revolution, the way that the boundary runs.
+/// Straight edges along the surface add nothing and are left out.
+#[derive(Clone, Copy, Debug, PartialEq)]
+pub enum Path {
+    /// An arc about the surface's axis, from one point to another; it turns about its own axis.
+    Arc(Arc, Vec3, Vec3),
+    /// A piece of a development of the surface, which is then to be a cylinder.
+    Rolled(Rolled),
+}
+
+/// Adds to the sums a face on a cone or cylinder, given by the curves in its boundary.
+///
+/// The volume of a pipe's plug, 50 in radius and 100 long:
+///
+/// ```
+/// use std::f64::consts::PI;
+/// use juniperreef::{Arc, Cone, Integrals, Path, Refusal, Vec3, revolution, segment};
+///
+/// let (up, down) = (Vec3::new(0.0, 0.0, 1.0), Vec3::new(0.0, 0.0, -1.0));
+/// let side = Cone { origin: Vec3::ZERO, axis: up, radius: 50.0, slope: 0.0, convex: true };
+/// let o = Vec3::new(7.0, -3.0, 11.0);
+/// let mut sums = Integrals::default();
+/// let mut boundary = Vec::new();
+/// // The lower rim runs about the axis, the upper one against it.
+/// for (z, way) in [(0.0, up), (100.0, down)] {
+///     let (center, p) = (Vec3::new(0.0, 0.0, z), Vec3::new(50.0, 0.0, z));
+///     let rim = Arc { center, axis: way, radius: 50.0 };
+///     boundary.push(Path::Arc(rim, p, p));
+///     // A disk is all segment: the polygon of its one corner is empty.
+///     let out = (-way)?;
+///     segment(&mut sums, &rim, out, p, p, out, o)?;
+/// }
+/// revolution(&mut sums, &side, &boundary, o)?;
+///
+/// let volume = PI * 50.0 * 50.0 * 100.0;
+/// assert!((sums.six_v / 6.0 - volume).abs() < 1e-12 * volume);
+/// assert!((sums.area - 2.0 * PI * 50.0 * 100.0).abs() < 1e-9);
+/// # Ok::<(), Refusal>(())
+/// ```
+///
+/// It opens a [`Revolution`], adds the paths in their order and closes it. A refusal on the way
+/// leaves the sums as they were.
+pub fn revolution(
+    acc: &mut Integrals,
+    c: &Cone,
+    paths: impl IntoIterator<Item = impl Borrow<Path>>,
+    o: Vec3,
+) -> Result<(), Refusal> {
+    let mut face = Revolution::open(c, o)?;
+    for path in paths {
+        face.add(path.borrow())?;
+    }
+    face.close(acc)
+}
+
+/// A face on a cone or cylinder whose paths come one by one: opened, its paths added, closed. What
+/// [`revolution`] does in one call, without a list.
+///
+/// ```
+/// use juniperreef::{Arc, Cone, Integrals, Path, Refusal, Revolution, Vec3, revolution};
+///
+/// let axis = Vec3::new(0.0, 0.0, 1.0);
+/// let side = Cone { origin: Vec3::ZERO, axis, radius: 50.0, slope: -0.25, convex: true };
+/// let (o, p) = (Vec3::ZERO, Vec3::new(0.0, 40.0, 40.0));
+/// let rim = Arc { center: Vec3::new(0.0, 0.0, 40.0), axis: (-axis)?, radius: 40.0 };
+/// let path = Path::Arc(rim, p, p);
+///
+/// let (mut one, mut other) = (Integrals::default(), Integrals::default());
+/// Revolution::open(&side, o)?.add(&path)?.close(&mut one)?;
+/// revolution(&mut other, &side, [path], o)?;
+/// assert_eq!(one, other);
+/// # Ok::<(), Refusal>(())
+/// ```
+#[derive(Clone, Debug, PartialEq)]
+pub struct Revolution {
+    /// The cone or cylinder.
+    pub cone: Cone,
+    /// The point that volumes are measured from.
+    pub o: Vec3,
+    /// The sums over the paths so far; their area has no sign yet.
+    pub running: Integrals,
+}
+
+impl Revolution {
+    /// A face with no path yet.
+    pub fn open(c: &Cone, o: Vec3) -> Result<Self, Refusal> {
+        ffi::numbers(|out| ffi::jr_revolution_open(&c.numbers(), &o.to_array(), out))
+            .map(|running| Self { cone: *c, o, running: Integrals::of(&running) })
+    }
+
+    /// Adds a path. A refused one is not added, and the face is as it was.
+    pub fn add(&mut self, path: &Path) -> Result<&mut Self, Refusal> {
+        let (c, o) = (self.cone.numbers(), self.o.to_array());
+        match path {
+            Path::Arc(arc, u, v) => {
+                let (arc, [u, v]) = (arc.numbers(), [*u, *v].map(Vec3::to_array));
+                self.running.lend(|sums| ffi::jr_revolution_add_arc(&c, &o, &arc, &u, &v, sums))?;
+            }
+            Path::Rolled(w) => {
+                let w = w.tagged();
+                self.running.lend(|sums| {
+                    ffi::jr_revolution_add_piece(&c, &o, &w.numbers, w.arc, w.trace, sums)
+                })?;
+            }
+        }
+        Ok(self)
+    }
+
+    /// Adds the face to the sums of its body.
+    pub fn close(&self, acc: &mut Integrals) -> Result<(), Refusal> {
+        let (c, running) = (self.cone.numbers(), self.running.numbers());
+        acc.lend(|sums| ffi::jr_revolution_close(&c, self.cone.convex, &running, sums))
+    }
+}
+
+/// Adds to the sums the wall over the piece `w`, from `r0` to a greater `r1` from the axis of its
+/// development.
+pub fn wall(acc: &mut Integrals, w: &Rolled, r0: f64, r1: f64, o: Vec3) -> Result<(), Refusal> {
+    let (w, o) = (w.tagged(), o.to_array());
+    acc.lend(|sums| ffi::jr_wall(sums, &w.numbers, w.arc, w.trace, r0, r1, &o))
+}

@@ -1,0 +1,353 @@
+//! The library's C functions, and the way their answers are read.
+//!
+//! Records pass as arrays of numbers, enums as tags. The answer is 0, and the result is written; or
+//! a refusal's number, and nothing is.
+
+use crate::Refusal;
+
+// SAFETY: these are the signatures of crates/exports, whose functions are proved to read and write
+// within the arrays that they are handed and to finish for every bit pattern. So those that take
+// arrays alone are safe to call with any; the two that take a row as a pointer and a length are
+// not, and stand last.
+unsafe extern "C" {
+    // vectors and motions
+    pub safe fn jr_dot(a: &[f64; 3], b: &[f64; 3], out: &mut [f64; 1]) -> u32;
+    pub safe fn jr_cross(a: &[f64; 3], b: &[f64; 3], out: &mut [f64; 3]) -> u32;
+    pub safe fn jr_sum(a: &[f64; 3], b: &[f64; 3], out: &mut [f64; 3]) -> u32;
+    pub safe fn jr_difference(a: &[f64; 3], b: &[f64; 3], out: &mut [f64; 3]) -> u32;
+    pub safe fn jr_negation(a: &[f64; 3], out: &mut [f64; 3]) -> u32;
+    pub safe fn jr_times(a: &[f64; 3], k: f64, out: &mut [f64; 3]) -> u32;
+    pub safe fn jr_dominant_axis(a: &[f64; 3], out: &mut [u64; 1]) -> u32;
+    pub safe fn jr_unit(v: &[f64; 3], out: &mut [f64; 3]) -> u32;
+    pub safe fn jr_rotation(axis: &[f64; 3], angle: f64, out: &mut [f64; 12]) -> u32;
+    pub safe fn jr_frame(
+        origin: &[f64; 3],
+        x: &[f64; 3],
+        y: &[f64; 3],
+        z: &[f64; 3],
+        out: &mut [f64; 12],
+    ) -> u32;
+    pub safe fn jr_apply(m: &[f64; 12], p: &[f64; 3], out: &mut [f64; 3]) -> u32;
+    pub safe fn jr_apply_vector(m: &[f64; 12], v: &[f64; 3], out: &mut [f64; 3]) -> u32;
+
+    // arcs: centre, axis, radius
+    pub safe fn jr_turn(
+        center: &[f64; 2],
+        ccw: bool,
+        a: &[f64; 2],
+        b: &[f64; 2],
+        out: &mut [f64; 1],
+    ) -> u32;
+    pub safe fn jr_per_turn(radius: f64, chord: f64, out: &mut [f64; 1]) -> u32;
+    pub safe fn jr_reversed(arc: &[f64; 7], out: &mut [f64; 7]) -> u32;
+    pub safe fn jr_sweep(arc: &[f64; 7], from: &[f64; 3], to: &[f64; 3], out: &mut [f64; 1])
+    -> u32;
+    pub safe fn jr_at(arc: &[f64; 7], from: &[f64; 3], t: f64, out: &mut [f64; 3]) -> u32;
+    pub safe fn jr_extend_bounds(
+        arc: &[f64; 7],
+        from: &[f64; 3],
+        to: &[f64; 3],
+        bounds: &mut [f64; 6],
+    ) -> u32;
+
+    // developments: origin, axis, start, neutral
+    pub safe fn jr_development_radial(dev: &[f64; 10], u: f64, out: &mut [f64; 3]) -> u32;
+    pub safe fn jr_development_point(
+        dev: &[f64; 10],
+        p: &[f64; 2],
+        r: f64,
+        out: &mut [f64; 3],
+    ) -> u32;
+    pub safe fn jr_development_along(
+        dev: &[f64; 10],
+        p: &[f64; 2],
+        d: &[f64; 2],
+        r: f64,
+        out: &mut [f64; 3],
+    ) -> u32;
+    pub safe fn jr_development_unroll(
+        dev: &[f64; 10],
+        q: &[f64; 3],
+        near: f64,
+        out: &mut [f64; 3],
+    ) -> u32;
+    pub safe fn jr_development_moved(dev: &[f64; 10], m: &[f64; 12], out: &mut [f64; 10]) -> u32;
+
+    // waves, meets (origin, axis, radius, own, two angles), traces
+    pub safe fn jr_wave_at(wave: &[f64; 3], u: f64, n: f64, out: &mut [f64; 3]) -> u32;
+    pub safe fn jr_wave_range(wave: &[f64; 3], u0: f64, u1: f64, n: f64, out: &mut [f64; 2])
+    -> u32;
+    pub safe fn jr_meet_point(
+        meet: &[f64; 10],
+        turn: u32,
+        phi: f64,
+        n: f64,
+        out: &mut [f64; 9],
+    ) -> u32;
+    pub safe fn jr_trace_v(trace: &[f64; 10], kind: u32, u: f64, n: f64, out: &mut [f64; 1])
+    -> u32;
+
+    // pieces: development, from, to, the arc's centre, trace
+    pub safe fn jr_piece_uv_box(piece: &[f64; 26], arc: u32, trace: u32, out: &mut [f64; 4])
+    -> u32;
+    pub safe fn jr_piece_polyline(
+        piece: &[f64; 26],
+        arc: u32,
+        trace: u32,
+        deviation: f64,
+        out: &mut [u64; 1],
+    ) -> u32;
+    pub safe fn jr_piece_reversed(
+        piece: &[f64; 26],
+        arc: u32,
+        trace: u32,
+        out: &mut [f64; 26],
+        tags: &mut [u32; 2],
+    ) -> u32;
+    pub safe fn jr_piece_at(
+        piece: &[f64; 26],
+        arc: u32,
+        trace: u32,
+        t: f64,
+        out: &mut [f64; 4],
+    ) -> u32;
+    pub safe fn jr_piece_second(
+        piece: &[f64; 26],
+        arc: u32,
+        trace: u32,
+        t: f64,
+        out: &mut [f64; 2],
+    ) -> u32;
+    pub safe fn jr_piece_normal(
+        piece: &[f64; 26],
+        arc: u32,
+        trace: u32,
+        p: &[f64; 2],
+        r: f64,
+        out: &mut [f64; 3],
+    ) -> u32;
+    pub safe fn jr_piece_measure(
+        piece: &[f64; 26],
+        arc: u32,
+        trace: u32,
+        out: &mut [f64; 3],
+    ) -> u32;
+    pub safe fn jr_piece_quadrature_pieces(
+        piece: &[f64; 26],
+        arc: u32,
+        trace: u32,
+        out: &mut [u64; 1],
+    ) -> u32;
+    pub safe fn jr_piece_chords(
+        piece: &[f64; 26],
+        arc: u32,
+        trace: u32,
+        r: f64,
+        chord: f64,
+        out: &mut [u64; 1],
+    ) -> u32;
+
+    // curves: an arc, or a piece and then the radius
+    pub safe fn jr_curve_reversed(
+        curve: &[f64; 27],
+        kind: u32,
+        arc: u32,
+        trace: u32,
+        out: &mut [f64; 27],
+        tags: &mut [u32; 2],
+    ) -> u32;
+    pub safe fn jr_curve_moved(
+        curve: &[f64; 27],
+        kind: u32,
+        arc: u32,
+        trace: u32,
+        m: &[f64; 12],
+        out: &mut [f64; 27],
+    ) -> u32;
+    pub safe fn jr_curve_arc(
+        curve: &[f64; 27],
+        kind: u32,
+        arc: u32,
+        trace: u32,
+        out: &mut [f64; 7],
+    ) -> u32;
+    pub safe fn jr_curve_extend_bounds(
+        curve: &[f64; 27],
+        kind: u32,
+        arc: u32,
+        trace: u32,
+        from: &[f64; 3],
+        to: &[f64; 3],
+        bounds: &mut [f64; 6],
+    ) -> u32;
+
+    // surfaces: a plane, a cylinder, a cone or a wall's piece
+    pub safe fn jr_surface_plane(
+        surface: &[f64; 26],
+        kind: u32,
+        convex: bool,
+        arc: u32,
+        trace: u32,
+        out: &mut [f64; 6],
+    ) -> u32;
+    pub safe fn jr_surface_revolution(
+        surface: &[f64; 26],
+        kind: u32,
+        convex: bool,
+        arc: u32,
+        trace: u32,
+        out: &mut [f64; 8],
+    ) -> u32;
+    pub safe fn jr_surface_moved(
+        surface: &[f64; 26],
+        kind: u32,
+        convex: bool,
+        arc: u32,
+        trace: u32,
+        m: &[f64; 12],
+        out: &mut [f64; 26],
+    ) -> u32;
+    pub safe fn jr_surface_normal_at(
+        surface: &[f64; 26],
+        kind: u32,
+        convex: bool,
+        arc: u32,
+        trace: u32,
+        p: &[f64; 3],
+        out: &mut [f64; 3],
+    ) -> u32;
+
+    // faces: cones are origin, axis, radius, slope; sums are six_v, moment, area, area vector
+    pub safe fn jr_cone_frame(cone: &[f64; 8], out: &mut [f64; 12]) -> u32;
+    pub safe fn jr_frame_angle(frame: &[f64; 12], p: &[f64; 3], out: &mut [f64; 1]) -> u32;
+    pub safe fn jr_frame_point(
+        frame: &[f64; 12],
+        theta: f64,
+        z: f64,
+        r: f64,
+        out: &mut [f64; 3],
+    ) -> u32;
+    pub safe fn jr_segment(
+        sums: &mut [f64; 8],
+        arc: &[f64; 7],
+        k: &[f64; 3],
+        u: &[f64; 3],
+        v: &[f64; 3],
+        n: &[f64; 3],
+        o: &[f64; 3],
+    ) -> u32;
+    pub safe fn jr_revolution_open(cone: &[f64; 8], o: &[f64; 3], running: &mut [f64; 8]) -> u32;
+    pub safe fn jr_revolution_add_arc(
+        cone: &[f64; 8],
+        o: &[f64; 3],
+        arc: &[f64; 7],
+        u: &[f64; 3],
+        v: &[f64; 3],
+        running: &mut [f64; 8],
+    ) -> u32;
+    pub safe fn jr_revolution_add_piece(
+        cone: &[f64; 8],
+        o: &[f64; 3],
+        piece: &[f64; 26],
+        arc: u32,
+        trace: u32,
+        running: &mut [f64; 8],
+    ) -> u32;
+    pub safe fn jr_revolution_close(
+        cone: &[f64; 8],
+        convex: bool,
+        running: &[f64; 8],
+        sums: &mut [f64; 8],
+    ) -> u32;
+    pub safe fn jr_wall(
+        sums: &mut [f64; 8],
+        piece: &[f64; 26],
+        arc: u32,
+        trace: u32,
+        r0: f64,
+        r1: f64,
+        o: &[f64; 3],
+    ) -> u32;
+
+    // rows: `row` is the start of `length` numbers that nothing else has hold of
+    pub fn jr_inner_points(
+        arc: &[f64; 7],
+        from: &[f64; 3],
+        to: &[f64; 3],
+        chord: f64,
+        row: *mut f64,
+        length: usize,
+        written: &mut [u64; 1],
+    ) -> u32;
+    pub fn jr_curve_inner_points(
+        curve: &[f64; 27],
+        kind: u32,
+        arc: u32,
+        trace: u32,
+        from: &[f64; 3],
+        to: &[f64; 3],
+        chord: f64,
+        row: *mut f64,
+        length: usize,
+        written: &mut [u64; 1],
+    ) -> u32;
+}
+
+/// No such thing: an answer that is no refusal.
+const NONE: u32 = 255;
+
+/// The refusal that a function answered, if any.
+pub fn settle(answer: u32) -> Result<(), Refusal> {
+    match answer {
+        0 => Ok(()),
+        number => Err(Refusal::from_number(number).unwrap_or_else(|| unknown(number))),
+    }
+}
+
+/// The tags of this crate are all known, so only an archive of another release gets here.
+#[cold]
+fn unknown(answer: u32) -> ! {
+    panic!("the linked library answered {answer}, which this release of the crate does not know")
+}
+
+/// What a call writes.
+pub fn numbers<const N: usize>(
+    call: impl FnOnce(&mut [f64; N]) -> u32,
+) -> Result<[f64; N], Refusal> {
+    let mut out = [0.0; N];
+    settle(call(&mut out))?;
+    Ok(out)
+}
+
+/// What a call writes, where there is such a thing.
+pub fn some_numbers<const N: usize>(
+    call: impl FnOnce(&mut [f64; N]) -> u32,
+) -> Result<Option<[f64; N]>, Refusal> {
+    let mut out = [0.0; N];
+    match call(&mut out) {
+        NONE => Ok(None),
+        answer => settle(answer).map(|()| Some(out)),
+    }
+}
+
+/// The one number that a call writes.
+pub fn number(call: impl FnOnce(&mut [f64; 1]) -> u32) -> Result<f64, Refusal> {
+    numbers(call).map(|[x]| x)
+}
+
+/// The count that a call writes. Counts end at 196,602, so every `usize` of 32 bits holds them.
+pub fn count(call: impl FnOnce(&mut [u64; 1]) -> u32) -> Result<usize, Refusal> {
+    let mut out = [0];
+    settle(call(&mut out))?;
+    Ok(out[0] as usize)
+}
+
+/// The N numbers from the k-th on.
+pub fn part<const N: usize>(numbers: &[f64], k: usize) -> [f64; N] {
+    core::array::from_fn(|i| numbers[k + i])
+}
+
+/// Puts numbers into a longer row, from the k-th place on.
+pub fn put(row: &mut [f64], k: usize, numbers: &[f64]) {
+    row[k..k + numbers.len()].copy_from_slice(numbers);
+}
