@@ -110,6 +110,7 @@ fn compare(driver: &File, name: &str, call: Call) -> io::Result<Found> {
         }
     }
     assert!(child.wait()?.success(), "the oracle failed on {name}");
+    assert!(found.equal > 0, "no call of {name} was accepted");
     Ok(found)
 }
 
