@@ -1,5 +1,5 @@
 // The operations by their numbers: each calls the function that other languages call on a line's inputs, and says whether the
-// answer is the line's.
+// answer is the line's. Those of later parts call the entry itself, in crates of their own.
 use crate::answers::is_1;
 use crate::answers::is_2;
 use crate::answers::is_3;
@@ -381,6 +381,10 @@ pub(crate) fn is_alike(operation: u64, line: &[u8]) -> bool {
         23..=27 => of_arcs(operation, line),
         28..=32 => of_developments(operation, line),
         33..=36 => of_traces(operation, line),
-        _ => of_frames(operation, line),
+        37..=45 => replay_pieces::is_alike(operation, line),
+        46..=50 => replay_curves::is_alike(operation, line),
+        51..=54 => replay_surfaces::is_alike(operation, line),
+        56..=58 => of_frames(operation, line),
+        _ => replay_faces::is_alike(operation, line),
     }
 }
