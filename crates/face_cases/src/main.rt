@@ -219,6 +219,111 @@ fn sheet() -> Development {
     }
 }
 
+// A straight piece across the axis at height v added to the cylinder's side, by the sheet that is rolled to it.
+fn add_straight(s: Integrals, from: f64, to: f64, v: f64) -> Integrals {
+    sums_of(revolutions::add_piece(
+        s,
+        cone(50.0, 0.0),
+        sheet(),
+        Vec2 { x: from, y: v },
+        Vec2 { x: to, y: v },
+        PieceArc::Without,
+        PieceTrace::Without,
+        HERE,
+    ))
+}
+
+// Four quarters, one after the other, from where u is `from`.
+fn add_quarters(s: Integrals, from: f64, quarter: f64, v: f64) -> Integrals {
+    let one = add_straight(s, from, from + quarter, v);
+    let two = add_straight(one, from + quarter, from + 2.0 * quarter, v);
+    let three = add_straight(two, from + 2.0 * quarter, from + 3.0 * quarter, v);
+    add_straight(three, from + 3.0 * quarter, from + 4.0 * quarter, v)
+}
+
+fn compare_sums(due: Integrals, found: Integrals) {
+    compare(b"  six times the volume", due.six_v, found.six_v, 1e6);
+    compare(b"  moment x", due.moment.x, found.moment.x, 1e8);
+    compare(b"  moment y", due.moment.y, found.moment.y, 1e8);
+    compare(b"  moment z", due.moment.z, found.moment.z, 1e8);
+    compare(b"  area", due.area, found.area, 1e4);
+    compare(
+        b"  area vector x",
+        due.area_vector.x,
+        found.area_vector.x,
+        1e4,
+    );
+    compare(
+        b"  area vector y",
+        due.area_vector.y,
+        found.area_vector.y,
+        1e4,
+    );
+    compare(
+        b"  area vector z",
+        due.area_vector.z,
+        found.area_vector.z,
+        1e4,
+    );
+}
+
+// The side of a cylinder by its two rims, each of them one path, and by their quarters; then by arcs in place of pieces.
+fn one_face_in_pieces() {
+    say(b"the side of a cylinder, a rim a path, and piece by piece\n");
+    let all = 100.0 * PI;
+    let open = sums_of(revolutions::open(cone(50.0, 0.0), HERE));
+    let low = add_straight(open, 0.0, all, 0.0);
+    let whole = add_straight(low, all, 0.0, 100.0);
+    let half = add_quarters(open, 0.0, 25.0 * PI, 0.0);
+    let parts = add_quarters(half, all, -25.0 * PI, 100.0);
+    compare_sums(whole, parts);
+    say(b"the same by arcs\n");
+    compare_sums(whole, side(nothing(), 50.0, 0.0, 100.0, 1.0));
+}
+
+// The notch is half a circle of radius 10 about (25 pi, 100), which the face's loop runs clockwise. With J the Bessel function of order 1
+// at 10 / 50, the area vector of the part that it takes away is 500 pi J along y; n is the radial direction, so six times the volume is
+// twice what the area times 50, less the area vector times the place of measuring, comes to.
+fn half_cylinder_with_a_notch() {
+    say(b"half of a cylinder's side with a notch of radius 10 in its upper rim\n");
+    let notch = 500.0 * PI * 0.099500832639236;
+    let mid = 25.0 * PI;
+    let area = PI * 4950.0;
+    let open = sums_of(revolutions::open(cone(50.0, 0.0), HERE));
+    let low = add_straight(open, 0.0, 50.0 * PI, 0.0);
+    let right = add_straight(low, 50.0 * PI, mid + 10.0, 100.0);
+    let cut = sums_of(revolutions::add_piece(
+        right,
+        cone(50.0, 0.0),
+        sheet(),
+        Vec2 {
+            x: mid + 10.0,
+            y: 100.0,
+        },
+        Vec2 {
+            x: mid - 10.0,
+            y: 100.0,
+        },
+        PieceArc::With(ProfileArc {
+            center: Vec2 { x: mid, y: 100.0 },
+            ccw: false,
+        }),
+        PieceTrace::Without,
+        HERE,
+    ));
+    let s = add_straight(cut, mid - 10.0, 0.0, 100.0);
+    let vector = 10000.0 - notch;
+    compare(b"  area", area, s.area, area);
+    compare(b"  area vector x", 0.0, s.area_vector.x, area);
+    compare(b"  area vector y", vector, s.area_vector.y, area);
+    compare(
+        b"  six times the volume",
+        2.0 * (50.0 * area - HERE.y * vector),
+        s.six_v,
+        1e6,
+    );
+}
+
 // A round hole of radius 10 in the development, which the face's loop runs clockwise.
 fn cylinder_with_a_hole() {
     say(b"the same cylinder's side with a hole of radius 10 in its development\n");
@@ -281,5 +386,7 @@ fn main() {
     half_cylinder();
     one_rim_in_parts();
     cylinder_with_a_hole();
+    one_face_in_pieces();
+    half_cylinder_with_a_notch();
     straight_walls();
 }
