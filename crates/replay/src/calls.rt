@@ -382,6 +382,7 @@ pub(crate) fn is_alike(operation: u64, line: &[u8]) -> bool {
         28..=32 => of_developments(operation, line),
         33..=36 => of_traces(operation, line),
         37..=45 => replay_pieces::is_alike(operation, line),
+        49 => replay_rows::is_alike(line),
         46..=50 => replay_curves::is_alike(operation, line),
         51..=54 => replay_surfaces::is_alike(operation, line),
         56..=58 => of_frames(operation, line),

@@ -26,7 +26,7 @@ use std::num::wrapping_add_usize;
 use vectors::Vec3;
 
 // A line begins with its curve, of 30 patterns.
-fn curve(line: &[u8]) -> Curve {
+pub fn curve(line: &[u8]) -> Curve {
     if pattern(line, 27) == 0 {
         Curve::Arc(arc(line, 0))
     } else {
