@@ -9,37 +9,46 @@ use crate::entry::{Call, Entry, UNTOUCHED};
 const INPUTS: usize = 4096;
 /// Of an entry whose calls are dear.
 const FEWER_INPUTS: usize = 512;
-const ROUNDS: usize = 15;
+const ROUNDS: usize = 40;
+/// Nanoseconds that a part of the inputs takes: shorter than the turns in which a loaded machine
+/// runs its programs, so that most of a part's rounds are not broken.
+const PART: f64 = 100_000.0;
 
-/// Calls over all inputs take this many nanoseconds each.
+/// Calls over these inputs take this many nanoseconds.
 fn time(call: Call, inputs: &[f64], takes: usize, out: &mut [f64]) -> f64 {
-    let repeat = 8;
     let start = Instant::now();
-    for _ in 0..repeat {
-        for input in inputs.chunks_exact(takes) {
-            black_box(call(black_box(input), out));
-        }
+    for input in inputs.chunks_exact(takes) {
+        black_box(call(black_box(input), out));
     }
-    start.elapsed().as_nanos() as f64 / (repeat * inputs.len() / takes) as f64
+    start.elapsed().as_nanos() as f64
 }
 
-/// The best of several rounds of each call, taken in turns.
+/// Nanoseconds of each call: part by part the best of several rounds, the calls taken in turns.
 fn best<const N: usize>(calls: [Call; N], inputs: &[f64], takes: usize, out: &mut [f64]) -> [f64; N] {
-    let mut least = [f64::INFINITY; N];
+    let count = inputs.len() / takes;
     for call in calls {
         time(call, inputs, takes, out);
     }
-    for _ in 0..ROUNDS {
-        for (least, call) in least.iter_mut().zip(calls) {
-            *least = least.min(time(call, inputs, takes, out));
+    let each = time(calls[0], inputs, takes, out) / count as f64;
+    let part = ((PART / each) as usize).clamp(1, count);
+    let mut sums = [0.0; N];
+    for part in inputs.chunks(part * takes) {
+        let mut least = [f64::INFINITY; N];
+        for _ in 0..ROUNDS {
+            for (least, call) in least.iter_mut().zip(calls) {
+                *least = least.min(time(call, part, takes, out));
+            }
+        }
+        for (sum, least) in sums.iter_mut().zip(least) {
+            *sum += least;
         }
     }
-    least
+    sums.map(|sum| sum / count as f64)
 }
 
 pub fn bench(entries: &[&Entry], seed: u64) -> bool {
     let [empty] = best([|_, _| 0], &[1.0; INPUTS], 1, &mut []);
-    println!("ns per call, the best of {ROUNDS} rounds over {INPUTS} accepted inputs of a class ({FEWER_INPUTS} where a call is dear); an empty call takes {empty:.1}");
+    println!("ns per call, part by part the best of {ROUNDS} rounds over {INPUTS} accepted inputs of a class ({FEWER_INPUTS} where a call is dear); an empty call takes {empty:.1}");
     println!("{:<24} {:<42} {:>8} {:>8} {:>6}", "NAME", "class", "port", "Rust", "ratio");
     for e in entries {
         let count = if e.full < 5_000_000 { FEWER_INPUTS } else { INPUTS };
