@@ -1,10 +1,11 @@
-// The inner points of a piece of a development, written to a lent row. Numbers may be of any size.
-// The loops are those of crate rims, over another point.
+// The inner points of a piece of a development, written to a lent row as crate rims writes those of
+// a circle. Numbers may be of any size.
 ghost use mathlib.Core.Path.{_≡_};
+ghost use mathlib.Core.Bool.{cond};
 ghost use mathlib.Core.List.{_++_};
-ghost use Prim.Native.Nat.{_*_, _≤_};
+ghost use Prim.Native.Nat.{_+_, _*_, _≤_};
 ghost use lib.ListN.{length, drop};
-ghost use Rattle.rows.specs.Rows.{upTo, flat, numberOf, rowAfter, pointsDue, allDue, Drawn};
+ghost use Rattle.rows.specs.Rows.{upTo, flat, placed, numberOf, rowAfter, pointsDue, allDue, Drawn};
 ghost use Rattle.piece_rows.specs.Inner.{innerC, innersDue};
 use checked::ROW_TOO_SHORT;
 use checked::earlier;
@@ -17,6 +18,7 @@ use rows::copy_part;
 use rows::less_one;
 use rows::put;
 use vectors::CheckedVec3;
+use vectors::Vec3;
 
 // The point k of n.
 fn point_at(g: Rolling, n: u16, k: u16) -> CheckedVec3
@@ -32,32 +34,29 @@ fn point_at(g: Rolling, n: u16, k: u16) -> CheckedVec3
     }
 }
 
-// The refusal that the points 1 to m meet first.
-fn noted_all(g: Rolling, n: u16, m: u16) -> u8
-    ensures { λ r. ⌜ r ≡ upTo (innerC g n) m .refusal ⌝ }
+// The point p behind the first i of a buffer, where it is to be stored.
+fn put_where(stored: bool, buf: &mut [f64], i: u16, p: Vec3)
+    requires { ⌜ 3 * i + 3 ≤ length (now buf) ⌝ }
+    ensures { λ _. ⌜ now (buf .exit) ≡ cond stored (placed i p (now (buf .entry))) (now (buf .entry)) ⌝ }
 {
-    let mut r: u8 = 0;
-    let mut i: u16 = 0;
-    while i < m {
-        i += 1;
-        let p = point_at(g, n, i);
-        r = earlier(r, p.refusal);
+    if stored {
+        put(&mut *buf, i, p);
     }
-    r
 }
 
-// The points 1 to m, worked out into the start of a buffer, and the refusal that they meet first.
-fn work_out(buf: &mut [f64], g: Rolling, n: u16, m: u16) -> u8
+// The refusal that the points 1 to m meet first; where `stored`, the points go to the start of a
+// buffer. One loop does both, since a function that is called from one place becomes a part of it.
+fn work_out(buf: &mut [f64], stored: bool, g: Rolling, n: u16, m: u16) -> u8
     requires { ⌜ 3 * m ≤ length (now buf) ⌝ }
     ensures refusal { λ r. ⌜ r ≡ upTo (innerC g n) m .refusal ⌝ }
-    ensures points { λ _. ⌜ now (buf .exit) ≡ flat (upTo (innerC g n) m .value) ++ drop (3 * m) (now (buf .entry)) ⌝ }
+    ensures points { λ _. ⌜ now (buf .exit) ≡ cond stored (flat (upTo (innerC g n) m .value) ++ drop (3 * m) (now (buf .entry))) (now (buf .entry)) ⌝ }
 {
     let mut r: u8 = 0;
     let mut i: u16 = 0;
     while i < m {
         let p = point_at(g, n, i + 1);
         let v = p.value;
-        put(&mut *buf, i, v);
+        put_where(stored, &mut *buf, i, v);
         r = earlier(r, p.refusal);
         i += 1;
     }
@@ -70,7 +69,7 @@ fn write_kept(row: &mut [f64], g: Rolling, n: u16, m: u16) -> u8
     ensures row { λ _. ⌜ now (row .exit) ≡ rowAfter (pointsDue 0 (innerC g n) m) (now (row .entry)) ⌝ }
 {
     let mut buf: [f64; 192] = [0.0; 192];
-    let r = work_out(&mut buf, g, n, m);
+    let r = work_out(&mut buf, true, g, n, m);
     if r == 0 {
         copy_part(&buf, &mut *row, 3 * (m as usize));
     }
@@ -84,9 +83,9 @@ fn write_twice(row: &mut [f64], g: Rolling, n: u16, m: u16) -> u8
     ensures number { λ r. ⌜ r ≡ numberOf (pointsDue 0 (innerC g n) m) ⌝ }
     ensures row { λ _. ⌜ now (row .exit) ≡ rowAfter (pointsDue 0 (innerC g n) m) (now (row .entry)) ⌝ }
 {
-    let r = noted_all(g, n, m);
+    let r = work_out(&mut *row, false, g, n, m);
     if r == 0 {
-        work_out(&mut *row, g, n, m);
+        work_out(&mut *row, true, g, n, m);
     }
     r
 }

@@ -1,26 +1,28 @@
 use mathlib.Core.Path.{_≡_, refl, _∙_, ap}
-use mathlib.Core.List.{_++_}
-use Prim.Native.Nat.{ℕ, _+_, _*_, _≤_, _-_}
+use Prim.Native.Nat.{ℕ, _≤_, _-_}
 use native.Mathlib.Omega.{arith}
-use lib.ListN.{length, drop, length-set}
+use lib.ListN.{length}
 use borrow.Author.Needs.{needs}
 use Rattle.checked.specs.Checked.{Checked}
+use Rattle.rows.specs.Rows.{upTo}
+use Rattle.rows.specs.Laws.{upTo-refusal}
 use Rattle.piece_rows.specs.Inner.{innerC}
-use Rattle.rows.specs.Rows.{upTo, flat}
-use Rattle.rows.specs.Laws.{upTo-refusal, point-put}
+use Rattle.piece_rows.specs.Laws.{held, held-none, held-more, held-length}
 use Rattle.piece_rows.proofs.work_out.Statement.{statement}
 use Rattle.piece_rows.proofs.work_out.Tie as tie
 
--- `i` points are noted and stored, and the rest of the buffer is as it was
+-- `i` points are noted, and stored where they are to be; the rest of the buffer is as it was
 abbrev Inv-loop : tie.InvT-loop
-Inv-loop buf₀ g n m r₀ i₀ buf r i = (i ≤ m) × (length buf ≡ length buf₀) × (r ≡ upTo (innerC g n) i .refusal) × (buf ≡ flat (upTo (innerC g n) i .value) ++ drop (3 * i) buf₀)
+Inv-loop buf₀ stored g n m r₀ i₀ buf r i = (i ≤ m) × (length buf ≡ length buf₀) × (r ≡ upTo (innerC g n) i .refusal) × (buf ≡ held stored (innerC g n) i buf₀)
 
 abbrev μ-loop : tie.MeasureT-loop
-μ-loop buf₀ g n m r₀ i₀ buf r i = m - i
+μ-loop buf₀ stored g n m r₀ i₀ buf r i = m - i
 
 loop-holds : tie.Need-loop-holds Inv-loop μ-loop
-unfolding upTo flat
-loop-holds c = (omega arith, refl, refl, refl)
+unfolding upTo
+loop-holds c =
+    let start = c .before .args in
+    (omega arith, refl, refl, held-none (start .stored) (innerC (start .g) (start .n)) (start .buf .now))
 
 add-point-at : tie.Need-add-point-at Inv-loop μ-loop
 add-point-at c = search needs
@@ -28,8 +30,8 @@ add-point-at c = search needs
 point-at-requires : tie.Need-point-at-requires Inv-loop μ-loop
 point-at-requires c κs = search needs
 
-put-requires : tie.Need-put-requires Inv-loop μ-loop
-put-requires c κs = omega (arith, c .before .before .before .before .before .before .pre, c .before .before .before .before .loop .inv .1)
+put-where-requires : tie.Need-put-where-requires Inv-loop μ-loop
+put-where-requires c κs = omega (arith, c .before .before .before .before .before .before .pre, c .before .before .before .before .loop .inv .1)
 
 earlier-requires : tie.Need-earlier-requires Inv-loop μ-loop
 earlier-requires c κs = search needs
@@ -44,12 +46,13 @@ loop-again : tie.Need-loop-again Inv-loop μ-loop
 loop-again c =
     let start = c .before .before .before .before .before .before .before .before .before .before in
     let now = c .before .before .before .before .before .before .before .before .loop in
-    let put = c .before .before .before .put .ensures in
-    let point = c .before .before .before .before .before .before .point-at .ensures in (
+    let put = c .before .before .before .put-where .ensures in
+    let point = c .before .before .before .before .before .before .point-at .ensures in
+    let f = innerC (start .args .g) (start .args .n) in (
       omega arith,
-      simp (put, length-set) (now .inv .1),
+      simp (put, held-length) (now .inv .1),
       simp (c .earlier .ensures, point .0, now .inv .2, upTo-refusal),
-      simp (put, point .1, now .inv .3) (point-put (innerC (start .args .g) (start .args .n)) (start .args .buf .now) (now .i) (omega (arith, start .pre))),
+      simp (put, point .1, now .inv .3) (held-more (start .args .stored) f (start .args .buf .now) (now .i) (omega (arith, start .pre))),
     )
 
 same-length : tie.Need-same-length Inv-loop μ-loop
@@ -58,9 +61,9 @@ same-length c = c .before .loop .inv .1
 returns : tie.Need-returns Inv-loop μ-loop
 returns c =
     let start = c .before .before .before .args in
-    let points = upTo (innerC (start .g) (start .n)) in
+    let f = innerC (start .g) (start .n) in
     let all : c .before .loop .i ≡ start .m = omega arith in
-    (c .before .loop .inv .2 ∙ ap (λ (k : ℕ). points k .refusal) all, c .before .loop .inv .3 ∙ ap (λ (k : ℕ). flat (points k .value) ++ drop (3 * k) (start .buf .now)) all)
+    (c .before .loop .inv .2 ∙ ap (λ (k : ℕ). upTo f k .refusal) all, c .before .loop .inv .3 ∙ ap (λ (k : ℕ). held (start .stored) f k (start .buf .now)) all)
 
 pub work-out-spec : {M : Type 1} → statement M
 work-out-spec =
@@ -71,7 +74,7 @@ work-out-spec =
     loop-holds
     add-point-at
     point-at-requires
-    put-requires
+    put-where-requires
     earlier-requires
     add-i
     loop-less

@@ -8,38 +8,44 @@ use Rattle.rows.specs.Laws.{flat-length, points-due, points-refused}
 use Rattle.piece_rows.proofs.write_twice.Statement.{statement}
 use Rattle.piece_rows.proofs.write_twice.Tie as tie
 
-noted-all-requires : tie.Need-noted-all-requires
-noted-all-requires c κs = search needs
-
 work-out-requires : tie.Need-work-out-requires
 work-out-requires c κs = search needs
+
+work-out-requires-2 : tie.Need-work-out-requires-2
+work-out-requires-2 c κs = search needs
 
 same-length : tie.Need-same-length
 same-length c = search needs
 
 returns : tie.Need-returns
 returns c =
-    let start = c .before .before .before .before .before .before .before .args in
+    let noted = c .before .before .before .before .before .before .before in
+    let start = noted .before .before .before .args in
     let f = innerC (start .g) (start .n) in
     let none = c .before .before .before .before .if1 .taken in
-    let r : first 0 (upTo f (start .m) .refusal) ≡ c .before .before .before .before .before .noted-all .result = simp (zero-first, c .before .before .before .before .before .noted-all .ensures) in
+    let r : first 0 (upTo f (start .m) .refusal) ≡ noted .work-out .result = simp (zero-first, noted .work-out .ensures .0) in
     let due = points-due 0 f (start .m) (r ∙ none) in
-    (simp (due, none), simp (due, c .before .before .work-out .ensures .1, flat-length))
+    (simp (due, none), simp (due, c .before .before .work-out2 .ensures .1, noted .work-out .ensures .1, flat-length))
+
+same-length-2 : tie.Need-same-length-2
+same-length-2 c = search needs
 
 returns-2 : tie.Need-returns-2
 returns-2 c =
-    let start = c .before .before .before .args in
+    let noted = c .before .before .before in
+    let start = noted .before .before .before .args in
     let f = innerC (start .g) (start .n) in
-    let r : c .before .noted-all .result ≡ first 0 (upTo f (start .m) .refusal) = simp (zero-first, c .before .noted-all .ensures) in
+    let r : noted .work-out .result ≡ first 0 (upTo f (start .m) .refusal) = simp (zero-first, noted .work-out .ensures .0) in
     let due = points-refused 0 f (start .m) (λ z. c .if1 .left (r ∙ z)) in
-    (simp (due, r), simp due)
+    (simp (due, r), simp (due, noted .work-out .ensures .1))
 
 pub write-twice-spec : {M : Type 1} → statement M
 write-twice-spec =
     tie.close
     (tie.spec
-    noted-all-requires
     work-out-requires
+    work-out-requires-2
     same-length
     returns
+    same-length-2
     returns-2)

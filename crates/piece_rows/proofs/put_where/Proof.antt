@@ -1,0 +1,24 @@
+use borrow.Author.Needs.{needs}
+use Rattle.piece_rows.proofs.put_where.Statement.{statement}
+use Rattle.piece_rows.proofs.put_where.Tie as tie
+
+put-requires : tie.Need-put-requires
+put-requires c κs = search needs
+
+same-length : tie.Need-same-length
+same-length c = search needs
+
+returns : tie.Need-returns
+returns c = simp (c .before .before .before .before .if1 .taken, c .before .before .put .ensures)
+
+returns-2 : tie.Need-returns-2
+returns-2 c = simp (c .if1 .left)
+
+pub put-where-spec : {M : Type 1} → statement M
+put-where-spec =
+    tie.close
+    (tie.spec
+    put-requires
+    same-length
+    returns
+    returns-2)
