@@ -1,5 +1,5 @@
 //! The crate's declarations are those of the library's source: the same functions, of the same
-//! types. A linker sees names alone.
+//! types. A linker sees names alone. And its version is that of the other bindings.
 
 use std::collections::BTreeMap;
 use std::fs;
@@ -31,6 +31,15 @@ fn passed(text: &str) -> Types {
     match text.split_whitespace().collect::<Vec<_>>().join(" ").as_str() {
         "&mut [f64]" => vec!["*mut f64".into(), "usize".into()],
         other => vec![other.into()],
+    }
+}
+
+#[test]
+fn one_version_for_all_bindings() {
+    let file = Path::new(env!("CARGO_MANIFEST_DIR")).join("../VERSION");
+    match fs::read_to_string(file) {
+        Ok(version) => assert_eq!(version.trim(), env!("CARGO_PKG_VERSION")),
+        Err(_) => println!("not compared: no VERSION beside the crate"),
     }
 }
 
