@@ -574,10 +574,15 @@ macro_rules! edges {
 
 const EDGE: usize = CURVE + 6;
 const EDGES: usize = 5;
+/// Calls of the second round: each edge once or more, shuffled.
+const SHUFFLED: usize = 8;
+/// Where the box stands, and behind it the places of the second round's edges.
+const BOX: usize = EDGES * EDGE;
+const PLACES: usize = BOX + 6;
 
-/// Edges of all kinds, arcs and pieces mixed, some of them refused, and a box.
+/// Edges of all kinds, arcs and pieces mixed, some of them refused, a box, and an order of calls.
 fn list(d: &mut Draw, i: &mut [f64], any: bool) {
-    for edge in i[..EDGES * EDGE].chunks_exact_mut(EDGE) {
+    for edge in i[..BOX].chunks_exact_mut(EDGE) {
         let shape = [Shape::Straight, Shape::Arc, Shape::Wave, Shape::Branch, Shape::Hole][d.below(5) as usize];
         let spoilt = [Shape::Touching, Shape::Limits, Shape::Refused, Shape::Every, Shape::Zeros, Shape::Wild, Shape::Tiny][d.below(7) as usize];
         let chosen = match d.below(6) {
@@ -589,29 +594,39 @@ fn list(d: &mut Draw, i: &mut [f64], any: bool) {
         };
         with_ends(d, edge, chosen);
     }
-    bounds(d, &mut i[EDGES * EDGE..]);
+    bounds(d, &mut i[BOX..PLACES]);
     if !any {
         let (low, high) = (f64::INFINITY, f64::NEG_INFINITY);
-        i[EDGES * EDGE..].copy_from_slice(&[low, low, low, high, high, high]);
+        i[BOX..PLACES].copy_from_slice(&[low, low, low, high, high, high]);
     }
+    let places = &mut i[PLACES..];
+    for k in 0..SHUFFLED {
+        places[k] = if k < EDGES { k as f64 } else { d.below(EDGES as u64) as f64 };
+        places.swap(k, d.below(k as u64 + 1) as usize);
+    }
+}
+
+/// The edge that the k-th call of the second round is for.
+fn place(i: &[f64], k: usize) -> usize {
+    i[PLACES + k] as usize
 }
 
 type BoxCall = fn(&[f64], &mut [f64; 6]) -> u32;
 
-/// What each call answers, the box after all of them, and the box after the same calls the other
-/// way round.
+/// What each call answers, the box after all of them, and both once more, from the first box, for the
+/// calls of the second round.
 fn called(i: &[f64], o: &mut [f64], call: BoxCall) -> u32 {
-    let handed: &[f64; 6] = at(i, EDGES * EDGE);
+    let handed: &[f64; 6] = at(i, BOX);
     let mut corners = *handed;
-    for (k, edge) in i[..EDGES * EDGE].chunks_exact(EDGE).enumerate() {
+    for (k, edge) in i[..BOX].chunks_exact(EDGE).enumerate() {
         o[k] = call(edge, &mut corners) as f64;
     }
     o[EDGES..EDGES + 6].copy_from_slice(&corners);
     corners = *handed;
-    for edge in i[..EDGES * EDGE].chunks_exact(EDGE).rev() {
-        call(edge, &mut corners);
+    for k in 0..SHUFFLED {
+        o[EDGES + 6 + k] = call(&i[place(i, k) * EDGE..][..EDGE], &mut corners) as f64;
     }
-    o[EDGES + 6..].copy_from_slice(&corners);
+    o[EDGES + 6 + SHUFFLED..].copy_from_slice(&corners);
     0
 }
 
@@ -640,9 +655,9 @@ fn rust_box_call(i: &[f64], corners: &mut [f64; 6]) -> u32 {
 /// no order of calls.
 fn least_and_greatest(i: &[f64], o: &mut [f64]) -> u32 {
     let (low, high) = (f64::INFINITY, f64::NEG_INFINITY);
-    let handed: &[f64; 6] = at(i, EDGES * EDGE);
+    let handed: &[f64; 6] = at(i, BOX);
     let mut corners = *handed;
-    for (k, edge) in i[..EDGES * EDGE].chunks_exact(EDGE).enumerate() {
+    for (k, edge) in i[..BOX].chunks_exact(EDGE).enumerate() {
         let mut own = [low, low, low, high, high, high];
         let number = second_box_call(edge, &mut own);
         let nan = handed.iter().any(|x| x.is_nan());
@@ -656,7 +671,10 @@ fn least_and_greatest(i: &[f64], o: &mut [f64]) -> u32 {
         }
     }
     o[EDGES..EDGES + 6].copy_from_slice(&corners);
-    o[EDGES + 6..].copy_from_slice(&corners);
+    for k in 0..SHUFFLED {
+        o[EDGES + 6 + k] = o[place(i, k)];
+    }
+    o[EDGES + 6 + SHUFFLED..].copy_from_slice(&corners);
     0
 }
 
@@ -879,8 +897,8 @@ pub const LISTS: &[Entry] = &[
     Entry {
         name: "curve_box_lists",
         port_name: "jr_curve_extend_bounds jr_extend_bounds",
-        takes: EDGES * EDGE + 6,
-        gives: EDGES + 12,
+        takes: PLACES + SHUFFLED,
+        gives: EDGES + 6 + SHUFFLED + 6,
         full: DEAR / 4,
         zeros_alike: true,
         flags: &[],

@@ -1,8 +1,11 @@
 // Curves in space: an arc, or a piece of a development at a radius from its axis.
 ghost use mathlib.Core.Path.{_≡_};
+ghost use lib.ListN.{length};
+ghost use Rattle.rows.specs.Rows as Rows;
 ghost use Rattle.curves.specs.Entries as Curves;
+ghost use Rattle.curve_rows.specs.Entries.{innerPointsDue};
 ghost use Rattle.records.specs.Records.{vec3, numberOf, after, tagDue};
-ghost use Rattle.arc_records.specs.Records.{rigid, bounds, ofArc, ofBounds};
+ghost use Rattle.arc_records.specs.Records.{rigid, bounds, ofArc, ofBounds, afterCount};
 ghost use Rattle.trace_records.specs.Records.{someDue};
 ghost use Rattle.piece_stores.specs.Stores.{stored};
 ghost use Rattle.curve_records.specs.Records.{isCurve, curve, withCurve, curveTags};
@@ -14,6 +17,7 @@ use curve_records::is_curve;
 use curve_records::store_curve;
 use curve_records::store_curve_arc;
 use curve_records::store_moved;
+use curve_rows::write_inner_points;
 use records::UNKNOWN_TAG;
 use records::vec3_of;
 
@@ -79,6 +83,39 @@ pub extern "C" fn jr_curve_arc(
     } else {
         UNKNOWN_TAG
     }
+}
+
+// Points of the curve c between its ends, for chords that deviate from it by `chord` at most, written
+// to the start of the row, and how many numbers that is.
+#[no_mangle]
+pub extern "C" fn jr_curve_inner_points(
+    c: &[f64; 27],
+    kind: u32,
+    arc: u32,
+    trace: u32,
+    from: &[f64; 3],
+    to: &[f64; 3],
+    chord: f64,
+    row: &mut [f64],
+    written: &mut [u64; 1],
+) -> u32
+    ensures number { λ n. ⌜ n ≡ Rows.numberOf (tagDue (isCurve kind arc trace) (innerPointsDue (curve (now (c .entry)) kind arc trace) (vec3 (now (from .entry))) (vec3 (now (to .entry))) chord (length (now (row .entry))))) ⌝ }
+    ensures row { λ _. ⌜ now (row .exit) ≡ Rows.rowAfter (tagDue (isCurve kind arc trace) (innerPointsDue (curve (now (c .entry)) kind arc trace) (vec3 (now (from .entry))) (vec3 (now (to .entry))) chord (length (now (row .entry))))) (now (row .entry)) ⌝ }
+    ensures written { λ _. ⌜ now (written .exit) ≡ afterCount (now (written .entry)) (tagDue (isCurve kind arc trace) (innerPointsDue (curve (now (c .entry)) kind arc trace) (vec3 (now (from .entry))) (vec3 (now (to .entry))) chord (length (now (row .entry))))) ⌝ }
+{
+    if is_curve(kind, arc, trace) {
+        let e = curve_of(c, kind, arc, trace);
+        let u = vec3_of(from);
+        let v = vec3_of(to);
+        let w = write_inner_points(e, u, v, chord, &mut *row);
+        let r = w.refusal;
+        if r == 0 {
+            written[0] = 3 * (w.points as u64);
+            return 0;
+        }
+        return r as u32;
+    }
+    UNKNOWN_TAG
 }
 
 // The box b widened by the curve c between two points; a piece has its own ends.
