@@ -334,6 +334,12 @@ uint32_t jr_curve_moved(const double c[JR_CURVE], uint32_t kind, uint32_t arc, u
 uint32_t jr_curve_arc(const double c[JR_CURVE], uint32_t kind, uint32_t arc, uint32_t trace,
     double out[JR_ARC]);
 
+/* Points of the curve c between its ends, for chords that deviate from it by `chord` at most,
+   written to the start of the row, and how many numbers that is. */
+uint32_t jr_curve_inner_points(const double c[JR_CURVE], uint32_t kind, uint32_t arc,
+    uint32_t trace, const double from[JR_VEC3], const double to[JR_VEC3], double chord, double *row,
+    size_t row_length, uint64_t written[1]);
+
 /* The box b widened by the curve c between two points; a piece has its own ends. */
 uint32_t jr_curve_extend_bounds(const double c[JR_CURVE], uint32_t kind, uint32_t arc,
     uint32_t trace, const double from[JR_VEC3], const double to[JR_VEC3], double b[JR_BOUNDS]);
