@@ -198,6 +198,76 @@ static void pieces(void)
     REFUSED(jr_piece_measure(level, JR_ARC_NONE, JR_TRACE_MEET_TURN + 1, out), JR_UNKNOWN_TAG);
 }
 
+/* So many numbers of an array are due. */
+static void filled(int line, uint32_t got, const double *numbers, int count, ...)
+{
+    va_list due;
+    va_start(due, count);
+    answered(line, got, JR_OK);
+    for (int k = 0; k < count; k++)
+        number(line, numbers[k], va_arg(due, double));
+    va_end(due);
+}
+
+#define FILLED(call, ...) filled(__LINE__, call, __VA_ARGS__)
+
+/* A quarter turn about z, then a shift by (1, 2, 3). */
+static const double move[JR_RIGID] = {0, -1, 0, 1, 0, 0, 0, 0, 1, 1, 2, 3};
+
+static void curves(void)
+{
+    const double a[JR_CURVE] = {0, 0, 0, 0, 0, 1, 5}, from[3] = {5, 0, 0}, to[3] = {0, 5, 0};
+    double w[JR_CURVE] = {0, 0, 0, 0, 0, 1, 1, 0, 0, 10, 0, 1, 5 * PI, 2}, got[JR_CURVE] = {0};
+    double row[9];
+    uint32_t tags[2] = {9, 9};
+    w[26] = 10;
+    FILLED(jr_piece_reversed(round5, JR_ARC_CCW, JR_TRACE_NONE, got, tags), got, 16, 0.0, 0.0, 0.0, 0.0, 0.0, 1.0, 1.0, 0.0, 0.0, 10.0, 0.0, 5.0, 5.0, 0.0, 0.0, 0.0);
+    answered(__LINE__, tags[0], JR_ARC_CW);
+    answered(__LINE__, tags[1], JR_TRACE_NONE);
+    FILLED(jr_curve_reversed(a, JR_CURVE_ARC, 9, 9, got, tags), got, 7, 0.0, 0.0, 0.0, 0.0, 0.0, -1.0, 5.0);
+    answered(__LINE__, tags[0], JR_ARC_CW);
+    FILLED(jr_curve_reversed(w, JR_CURVE_PIECE, JR_ARC_NONE, JR_TRACE_NONE, got, tags), got + 10, 4, 5 * PI, 2.0, 0.0, 1.0);
+    NUMBER(got[26], 10);
+    answered(__LINE__, tags[0], JR_ARC_NONE);
+    FILLED(jr_curve_moved(a, JR_CURVE_ARC, 0, 0, move, got), got, 7, 1.0, 2.0, 3.0, 0.0, 0.0, 1.0, 5.0);
+    FILLED(jr_curve_moved(w, JR_CURVE_PIECE, JR_ARC_NONE, JR_TRACE_NONE, move, got), got, 10, 1.0, 2.0, 3.0, 0.0, 0.0, 1.0, 0.0, 1.0, 0.0, 10.0);
+    WRITTEN(jr_curve_arc(a, JR_CURVE_ARC, 0, 0, out), 7, 0.0, 0.0, 0.0, 0.0, 0.0, 1.0, 5.0);
+    REFUSED(jr_curve_arc(w, JR_CURVE_PIECE, JR_ARC_NONE, JR_TRACE_NONE, out), JR_NONE);
+    REFUSED(jr_curve_arc(w, JR_CURVE_PIECE + 1, JR_ARC_NONE, JR_TRACE_NONE, out), JR_UNKNOWN_TAG);
+    COUNTED(jr_curve_inner_points(a, JR_CURVE_ARC, 0, 0, from, to, 5, out, LENT, whole), 6);
+    WRITTEN(JR_OK, 6, 5 * jr_sqrt(0.75), 2.5, 0.0, 2.5, 5 * jr_sqrt(0.75), 0.0);
+    COUNTED(jr_curve_inner_points(w, JR_CURVE_PIECE, JR_ARC_NONE, JR_TRACE_NONE, from, to, 10, row, 9, whole), 9);
+    answered(__LINE__, jr_sincos(PI / 8, out), JR_OK);
+    NUMBER(row[0], 10 * out[1]);
+    NUMBER(row[1], 10 * out[0]);
+    NUMBER(row[2], 1.25);
+    NUMBER(row[8], 1.75);
+    old(2, UNTOUCHED, UNTOUCHED);
+    REFUSED(jr_curve_inner_points(w, JR_CURVE_PIECE, JR_ARC_NONE, JR_TRACE_NONE, from, to, 10, out, 8, whole), JR_ROW_TOO_SHORT);
+    WRITTEN(jr_curve_extend_bounds(a, JR_CURVE_ARC, 0, 0, to, from, old(6, 0.0, 0.0, 0.0, 0.0, 0.0, 0.0)), 6, -5.0, -5.0, 0.0, 5.0, 5.0, 0.0);
+    WRITTEN(jr_curve_extend_bounds(w, JR_CURVE_PIECE, JR_ARC_NONE, JR_TRACE_NONE, from, to, old(6, 1.0, 1.0, 1.0, 1.0, 1.0, 1.0)), 6, 0.0, 0.0, 1.0, 10.0, 10.0, 2.0);
+}
+
+static void surfaces(void)
+{
+    const double plane[JR_SURFACE] = {1, 2, 3, 0, 0, 2}, pipe[JR_SURFACE] = {0, 0, 0, 0, 0, 1, 5};
+    const double taper[JR_SURFACE] = {0, 0, 0, 0, 0, 1, 5, 0.75}, p[3] = {0, 5, 0};
+    const double cut[JR_SURFACE] = {0, 0, 0, 0, 0, 1, 1, 0, 0, 10, 0, 0, 10, 0};
+    double got[JR_SURFACE] = {0};
+    WRITTEN(jr_surface_plane(plane, JR_SURFACE_PLANE, true, 0, 0, out), 6, 1.0, 2.0, 3.0, 0.0, 0.0, 2.0);
+    REFUSED(jr_surface_plane(pipe, JR_SURFACE_CYLINDER, true, 0, 0, out), JR_NONE);
+    WRITTEN(jr_surface_revolution(pipe, JR_SURFACE_CYLINDER, true, 0, 0, out), 8, 0.0, 0.0, 0.0, 0.0, 0.0, 1.0, 5.0, 0.0);
+    WRITTEN(jr_surface_revolution(taper, JR_SURFACE_CONE, true, 0, 0, out), 8, 0.0, 0.0, 0.0, 0.0, 0.0, 1.0, 5.0, 0.75);
+    REFUSED(jr_surface_revolution(cut, JR_SURFACE_WALL, true, 0, 0, out), JR_NONE);
+    REFUSED(jr_surface_revolution(cut, JR_SURFACE_WALL + 1, true, 0, 0, out), JR_UNKNOWN_TAG);
+    FILLED(jr_surface_moved(plane, JR_SURFACE_PLANE, true, 0, 0, move, got), got, 6, -1.0, 3.0, 6.0, 0.0, 0.0, 2.0);
+    WRITTEN(jr_surface_normal_at(plane, JR_SURFACE_PLANE, true, 0, 0, p, out), 3, 0.0, 0.0, 1.0);
+    WRITTEN(jr_surface_normal_at(pipe, JR_SURFACE_CYLINDER, true, 0, 0, p, out), 3, 0.0, 1.0, 0.0);
+    WRITTEN(jr_surface_normal_at(pipe, JR_SURFACE_CYLINDER, false, 0, 0, p, out), 3, 0.0, -1.0, 0.0);
+    WRITTEN(jr_surface_normal_at(taper, JR_SURFACE_CONE, true, 0, 0, p, out), 3, 0.0, 0.8, -0.6);
+    WRITTEN(jr_surface_normal_at(cut, JR_SURFACE_WALL, true, JR_ARC_NONE, JR_TRACE_NONE, p, out), 3, 0.0, 0.0, 1.0);
+}
+
 static void faces(void)
 {
     const double c[JR_CONE] = {0, 0, 0, 0, 0, 1, 10, 0}, taper[JR_CONE] = {0, 0, 0, 0, 0, 1, 10, 1};
@@ -235,6 +305,8 @@ int main(void)
     developments();
     traces();
     pieces();
+    curves();
+    surfaces();
     faces();
     printf("%d numbers and answers, %d wrong\n", cases, wrong);
     return wrong != 0;

@@ -77,7 +77,8 @@ static inline const char *jr_name(uint32_t answer)
     }
 }
 
-/* Records: how many numbers each has, and which. */
+/* Records: how many numbers each has, and which. Places that the tags do not use are neither used
+   nor written. */
 enum {
     JR_VEC2 = 2,         /* x, y; in a development u, v */
     JR_VEC3 = 3,         /* x, y, z */
@@ -102,7 +103,8 @@ enum {
                             area, area vector (3) */
 };
 
-/* A row that the inner points of any arc fit in: 63 points. */
+/* A row that the inner points of any arc fit in: 63 points. A piece has one point fewer than
+   `jr_piece_chords`, up to 65,534. */
 enum {
     JR_ARC_ROW = 189,
 };
@@ -290,7 +292,7 @@ uint32_t jr_piece_uv_box(const double w[JR_PIECE], uint32_t arc, uint32_t trace,
 uint32_t jr_piece_polyline(const double w[JR_PIECE], uint32_t arc, uint32_t trace, double deviation,
     uint64_t out[1]);
 
-/* The piece w run the other way, its tags arc and trace in `tags`. */
+/* The piece w run the other way, and to `tags` its tags `arc` and `trace`. */
 uint32_t jr_piece_reversed(const double w[JR_PIECE], uint32_t arc, uint32_t trace,
     double out[JR_PIECE], uint32_t tags[2]);
 
@@ -322,43 +324,46 @@ uint32_t jr_piece_chords(const double w[JR_PIECE], uint32_t arc, uint32_t trace,
 
 /* ---- Curves in space: an arc, or a piece of a development at a radius from its axis */
 
-/* The curve c run the other way, its tags arc and trace in `tags` where it is a piece. */
+/* The curve c run the other way, and to `tags` the tags `arc` and `trace` of a piece; an arc has
+   none. */
 uint32_t jr_curve_reversed(const double c[JR_CURVE], uint32_t kind, uint32_t arc, uint32_t trace,
     double out[JR_CURVE], uint32_t tags[2]);
 
-/* The curve c moved by m; its tags stay. */
+/* The curve c moved by m, its tags as they were. */
 uint32_t jr_curve_moved(const double c[JR_CURVE], uint32_t kind, uint32_t arc, uint32_t trace,
     const double m[JR_RIGID], double out[JR_CURVE]);
 
-/* The arc that the curve c is; JR_NONE for a piece. */
+/* The arc that the curve c is; 255 for a piece, which is none. */
 uint32_t jr_curve_arc(const double c[JR_CURVE], uint32_t kind, uint32_t arc, uint32_t trace,
     double out[JR_ARC]);
 
-/* Points of the curve c between its ends, for chords that deviate from it by `chord` at most,
-   written to the start of the row, and how many numbers that is. */
+/* Writes the points of the curve c strictly between `from` and `to`, a piece's between its own
+   ends, for chords within `chord` of it, three numbers each from the start of `row`, and how many
+   numbers these are to `written`. */
 uint32_t jr_curve_inner_points(const double c[JR_CURVE], uint32_t kind, uint32_t arc,
     uint32_t trace, const double from[JR_VEC3], const double to[JR_VEC3], double chord, double *row,
     size_t row_length, uint64_t written[1]);
 
-/* The box b widened by the curve c between two points; a piece has its own ends. */
+/* Widens the box b to hold the curve c, an arc from `from` to `to`, a piece from its own start to
+   its end. */
 uint32_t jr_curve_extend_bounds(const double c[JR_CURVE], uint32_t kind, uint32_t arc,
     uint32_t trace, const double from[JR_VEC3], const double to[JR_VEC3], double b[JR_BOUNDS]);
 
 /* ---- The surfaces of faces: planes, cylinders, cones, and walls over a piece */
 
-/* The plane that the surface s is, its origin and normal; JR_NONE for another surface. */
+/* The plane that the surface s is, its origin and its normal; 255 where it is none. */
 uint32_t jr_surface_plane(const double s[JR_SURFACE], uint32_t kind, bool convex, uint32_t arc,
     uint32_t trace, double out[6]);
 
-/* The cone that the surface s is, a cylinder as one of slope 0; JR_NONE for another surface. */
+/* The cone that the surface s is, a cylinder with slope 0; 255 where it is neither. */
 uint32_t jr_surface_revolution(const double s[JR_SURFACE], uint32_t kind, bool convex, uint32_t arc,
     uint32_t trace, double out[JR_CONE]);
 
-/* The surface s moved by m; its tags stay. */
+/* The surface s moved by m, its tags as they were. */
 uint32_t jr_surface_moved(const double s[JR_SURFACE], uint32_t kind, bool convex, uint32_t arc,
     uint32_t trace, const double m[JR_RIGID], double out[JR_SURFACE]);
 
-/* The unit normal of the surface s at the point p. */
+/* The unit normal of the surface s at its point p, out of the body. */
 uint32_t jr_surface_normal_at(const double s[JR_SURFACE], uint32_t kind, bool convex, uint32_t arc,
     uint32_t trace, const double p[JR_VEC3], double out[JR_VEC3]);
 

@@ -21,7 +21,8 @@ use curve_rows::write_inner_points;
 use records::UNKNOWN_TAG;
 use records::vec3_of;
 
-// The curve c run the other way, its tags arc and trace in `tags` where it is a piece.
+// The curve c run the other way, and to `tags` the tags `arc` and `trace` of a piece; an arc has
+// none.
 #[no_mangle]
 pub extern "C" fn jr_curve_reversed(
     c: &[f64; 27],
@@ -43,7 +44,7 @@ pub extern "C" fn jr_curve_reversed(
     }
 }
 
-// The curve c moved by m; its tags stay.
+// The curve c moved by m, its tags as they were.
 #[no_mangle]
 pub extern "C" fn jr_curve_moved(
     c: &[f64; 27],
@@ -65,7 +66,7 @@ pub extern "C" fn jr_curve_moved(
     }
 }
 
-// The arc that the curve c is; JR_NONE for a piece.
+// The arc that the curve c is; 255 for a piece, which is none.
 #[no_mangle]
 pub extern "C" fn jr_curve_arc(
     c: &[f64; 27],
@@ -85,8 +86,9 @@ pub extern "C" fn jr_curve_arc(
     }
 }
 
-// Points of the curve c between its ends, for chords that deviate from it by `chord` at most, written
-// to the start of the row, and how many numbers that is.
+// Writes the points of the curve c strictly between `from` and `to`, a piece's between its own ends,
+// for chords within `chord` of it, three numbers each from the start of `row`, and how many numbers
+// these are to `written`.
 #[no_mangle]
 pub extern "C" fn jr_curve_inner_points(
     c: &[f64; 27],
@@ -118,7 +120,8 @@ pub extern "C" fn jr_curve_inner_points(
     UNKNOWN_TAG
 }
 
-// The box b widened by the curve c between two points; a piece has its own ends.
+// Widens the box b to hold the curve c, an arc from `from` to `to`, a piece from its own start to
+// its end.
 #[no_mangle]
 pub extern "C" fn jr_curve_extend_bounds(
     c: &[f64; 27],

@@ -51,7 +51,7 @@ pub extern "C" fn jr_piece_polyline(
     }
 }
 
-// The piece w run the other way, its tags arc and trace in `tags`.
+// The piece w run the other way, and to `tags` its tags `arc` and `trace`.
 #[no_mangle]
 pub extern "C" fn jr_piece_reversed(
     w: &[f64; 26],

@@ -16,7 +16,7 @@ use surface_records::store_plane;
 use surface_records::store_surface;
 use surface_records::surface_of;
 
-// The plane that the surface s is, its origin and normal; JR_NONE for another surface.
+// The plane that the surface s is, its origin and its normal; 255 where it is none.
 #[no_mangle]
 pub extern "C" fn jr_surface_plane(
     s: &[f64; 26],
@@ -37,7 +37,7 @@ pub extern "C" fn jr_surface_plane(
     }
 }
 
-// The cone that the surface s is, a cylinder as one of slope 0; JR_NONE for another surface.
+// The cone that the surface s is, a cylinder with slope 0; 255 where it is neither.
 #[no_mangle]
 pub extern "C" fn jr_surface_revolution(
     s: &[f64; 26],
@@ -58,7 +58,7 @@ pub extern "C" fn jr_surface_revolution(
     }
 }
 
-// The surface s moved by m; its tags stay.
+// The surface s moved by m, its tags as they were.
 #[no_mangle]
 pub extern "C" fn jr_surface_moved(
     s: &[f64; 26],
@@ -81,7 +81,7 @@ pub extern "C" fn jr_surface_moved(
     }
 }
 
-// The unit normal of the surface s at the point p.
+// The unit normal of the surface s at its point p, out of the body.
 #[no_mangle]
 pub extern "C" fn jr_surface_normal_at(
     s: &[f64; 26],
