@@ -417,6 +417,28 @@ fn moved_curve(i: &[f64]) -> Result<Vec<f64>, u32> {
     Ok(out)
 }
 
+/// Whether the body lies inside, where the surface says so.
+fn convex(s: &Surface) -> Option<bool> {
+    match s {
+        Surface::Cylinder(c) => Some(c.convex),
+        Surface::Cone(c) => Some(c.convex),
+        Surface::Plane(_) | Surface::Wall(_) => None,
+    }
+}
+
+/// No number of a surface says on which side the body lies, so this is seen to here.
+fn moved_surface(i: &[f64]) -> Result<Vec<f64>, u32> {
+    let (before, after) = (surface(i), surface(i).moved(&motion(i, 30)));
+    assert!(!matches!(after, Ok(after) if convex(&after) != convex(&before)));
+    answer(after)
+}
+
+fn as_cone(i: &[f64]) -> Result<Vec<f64>, u32> {
+    let cone = surface(i).revolution();
+    assert!(!matches!(cone, Ok(Some(c)) if Some(c.convex) != convex(&surface(i))));
+    found(cone)
+}
+
 fn opened(i: &[f64]) -> Result<Vec<f64>, u32> {
     answer(Revolution::open(&cone(i, true), v3(i, 8)).map(|face| face.running))
 }
@@ -504,8 +526,8 @@ const CALLS: &[(&str, Call)] = &[
         lent(bounds(i, 36), |b| curve(i).extend_bounds(v3(i, 30), v3(i, 33), b))
     }),
     ("surface_plane", |i| found(surface(i).plane().map(|plane| plane.copied()))),
-    ("surface_revolution", |i| found(surface(i).revolution())),
-    ("surface_moved", |i| answer(surface(i).moved(&motion(i, 30)))),
+    ("surface_revolution", as_cone),
+    ("surface_moved", moved_surface),
     ("surface_normal_at", |i| answer(surface(i).normal_at(v3(i, 30)))),
     ("segment", |i| {
         let [k, u, v, n, o] = [7, 10, 13, 16, 19].map(|at| v3(i, at));
