@@ -82,15 +82,3 @@ pub(crate) fn is_10(line: &[u8], inputs: u8, answer: u32, out: &[f64; 10]) -> bo
 pub(crate) fn is_12(line: &[u8], inputs: u8, answer: u32, out: &[f64; 12]) -> bool {
     is_answer(line, inputs, answer, out)
 }
-
-// The written part of a row, after how many numbers it has.
-pub(crate) fn is_row(line: &[u8], refusal: u8, points: &[f64]) -> bool {
-    let n = points.len();
-    if refusal == 0 {
-        is_due(line, 0, wrapping_add_usize(n, 16))
-            & (pattern(line, 15) == n as u64)
-            & are_alike(line, 16, points)
-    } else {
-        is_due(line, refusal as u32, 15) & (n == 0)
-    }
-}

@@ -9,7 +9,6 @@ use crate::answers::is_9;
 use crate::answers::is_10;
 use crate::answers::is_12;
 use crate::answers::is_count;
-use crate::answers::is_row;
 use crate::answers::is_value;
 use crate::inputs::eight;
 use crate::inputs::number;
@@ -21,8 +20,6 @@ use crate::inputs::three;
 use crate::inputs::twelve;
 use crate::inputs::two;
 use answer_lines::pattern;
-use answer_lines::refusal;
-use arc_records::arc_of;
 use exports::of_arcs::jr_at;
 use exports::of_arcs::jr_extend_bounds;
 use exports::of_arcs::jr_per_turn;
@@ -61,7 +58,6 @@ use exports::of_vectors::jr_dot;
 use exports::of_vectors::jr_negation;
 use exports::of_vectors::jr_sum;
 use exports::of_vectors::jr_times;
-use records::vec3_of;
 
 fn of_numbers(operation: u64, line: &[u8]) -> bool {
     let x = number(line, 0);
@@ -211,7 +207,7 @@ fn of_arcs(operation: u64, line: &[u8]) -> bool {
             let r = jr_at(&a, &from, number(line, 10), &mut out);
             is_3(line, 11, r, &out)
         }
-        26 => inner_points(line),
+        26 => replay_rows::is_alike(operation, line),
         27 => {
             let mut out = six(line, 13);
             let r = jr_extend_bounds(&a, &from, &to, &mut out);
@@ -319,58 +315,6 @@ fn of_frames(operation: u64, line: &[u8]) -> bool {
     }
 }
 
-// The longest row of the list.
-const ROW: usize = 256;
-
-// What a row holds before the call; no point has such a number.
-const HELD: f64 = 123456.789;
-
-// By the entry in Rattle, whose answer is the written part of the row.
-fn is_part(line: &[u8], row: &mut [f64]) -> bool {
-    let a = arc_of(&seven(line, 0));
-    let from = vec3_of(&three(line, 7));
-    let to = vec3_of(&three(line, 10));
-    let mut met = 0;
-    let part = a.inner_points(from, to, number(line, 13), row, &mut met);
-    is_row(line, met, part)
-}
-
-// Whether the row keeps what it held, from k on.
-fn is_kept(row: &[f64], k: usize) -> bool {
-    let mut is_old = true;
-    let mut i = k;
-    while i < row.len() {
-        is_old = is_old & (row[i] == HELD);
-        i += 1;
-    }
-    is_old
-}
-
-// How many numbers are written where the line is met.
-fn written(line: &[u8]) -> usize {
-    if refusal(line) == 0 {
-        pattern(line, 15) as usize
-    } else {
-        0
-    }
-}
-
-// The written part is the line's, and the rest of the row keeps what it held: all of it where the call is refused.
-fn is_drawn(line: &[u8], row: &mut [f64]) -> bool {
-    let is_written = is_part(line, &mut *row);
-    is_written & is_kept(&*row, written(line))
-}
-
-fn inner_points(line: &[u8]) -> bool {
-    let mut row = [HELD; ROW];
-    let n = pattern(line, 14);
-    if n <= ROW as u64 {
-        is_drawn(line, &mut row[..n as usize])
-    } else {
-        false
-    }
-}
-
 // Whether the line's answer is that of the entry; an operation that nobody knows is never alike.
 pub(crate) fn is_alike(operation: u64, line: &[u8]) -> bool {
     match operation {
@@ -382,7 +326,7 @@ pub(crate) fn is_alike(operation: u64, line: &[u8]) -> bool {
         28..=32 => of_developments(operation, line),
         33..=36 => of_traces(operation, line),
         37..=45 => replay_pieces::is_alike(operation, line),
-        49 => replay_rows::is_alike(line),
+        49 => replay_rows::is_alike(operation, line),
         46..=50 => replay_curves::is_alike(operation, line),
         51..=54 => replay_surfaces::is_alike(operation, line),
         56..=58 => of_frames(operation, line),

@@ -5,10 +5,10 @@ use Rattle.replay_rows.proofs.are_numbers.Statement.{statement}
 use Rattle.replay_rows.proofs.are_numbers.Tie as tie
 
 abbrev Inv-loop : tie.InvT-loop
-Inv-loop line out is-same₀ i₀ is-same i = Unit {0}
+Inv-loop line k out is-same₀ i₀ is-same i = Unit {0}
 
 abbrev μ-loop : tie.MeasureT-loop
-μ-loop line out is-same₀ i₀ is-same i = length out - i
+μ-loop line k out is-same₀ i₀ is-same i = length out - i
 
 loop-holds : tie.Need-loop-holds Inv-loop μ-loop
 loop-holds c = search needs

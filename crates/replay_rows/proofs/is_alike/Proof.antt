@@ -4,6 +4,9 @@ use borrow.Author.Needs.{needs}
 use Rattle.replay_rows.proofs.is_alike.Statement.{statement}
 use Rattle.replay_rows.proofs.is_alike.Tie as tie
 
+place-requires : tie.Need-place-requires
+place-requires c κs = search needs
+
 pattern-requires : tie.Need-pattern-requires
 pattern-requires c κs = search needs
 
@@ -26,6 +29,7 @@ pub is-alike-spec : {M : Type 1} → statement M
 is-alike-spec =
     tie.close
     (tie.spec
+    place-requires
     pattern-requires
     array-borrow-prefix-row
     slice-aggregate-is-drawn
