@@ -1,17 +1,27 @@
 // A piece's radius, how far it turns and its length, on numbers of any size.
 ghost use mathlib.Core.Path.{_≡_};
+ghost use Rattle.checked.specs.Checked.{first, nine};
+ghost use Rattle.vectors.specs.Vectors.{plane};
+ghost use Rattle.courses.specs.Laws.{placedC};
+ghost use Rattle.measures.specs.Laws.{waveRun, followed};
 ghost use Rattle.measures.specs.Measures.{distanceC, placeC, longerC, furtherC, tracedC, segmentC, arcC, measureC};
 use arctangent::atan2;
 use checked::CheckedNumber;
 use checked::earlier;
 use checked::note;
 use courses::CheckedPlace;
+use courses::Course;
+use courses::Pace;
+use courses::Place;
+use courses::motion;
+use courses::placed;
 use profiles::ProfileArc;
 use roots::hypot;
-use run_points::at;
+use run_points::wave_at;
 use runs::Run;
 use runs::Way;
 use vectors::Vec2;
+use waves::Wave;
 use words::fabs;
 
 // The radius is 0 but for an arc.
@@ -40,17 +50,36 @@ pub fn distance(a: Vec2, b: Vec2) -> CheckedNumber
     }
 }
 
-// The place after k of 32 chords.
-fn place(r: Run, k: u16) -> CheckedPlace
-    ensures refusal { λ o. ⌜ o .refusal ≡ placeC r k .refusal ⌝ }
-    ensures value { λ o. ⌜ o .value ≡ placeC r k .value ⌝ }
+// The place after k of 32 chords along a wave.
+fn wave_place(w: Wave, from: Vec2, to: Vec2, n: f64, k: u16) -> CheckedPlace
+    ensures refusal { λ o. ⌜ o .refusal ≡ placeC (waveRun from to n w) k .refusal ⌝ }
+    ensures value { λ o. ⌜ o .value ≡ placeC (waveRun from to n w) k .value ⌝ }
 {
     let t = (k as f64) / 32.0;
-    let p = at(r, t);
+    let p = wave_at(w, from, to, n, t);
     let v = p.value;
     CheckedPlace {
         refusal: earlier(note(0, t), p.refusal),
         value: v,
+    }
+}
+
+// The place at t along a meet by its motion m there. The course itself would be copied at each chord.
+fn meet_place(c: Course, t: f64, m: Pace) -> CheckedPlace
+    ensures refusal { λ o. ⌜ o .refusal ≡ first (nine t) (first (m .ru) (first (m .rv) (first (m .rq) (placedC c t (m .q) .refusal)))) ⌝ }
+    ensures value { λ o. ⌜ o .value ≡ record { p = placedC c t (m .q) .value; d = plane (m .u) (m .v) } ⌝ }
+{
+    let p = placed(c, t, m.q);
+    let v = p.value;
+    CheckedPlace {
+        refusal: earlier(
+            note(0, t),
+            earlier(m.ru, earlier(m.rv, earlier(m.rq, p.refusal))),
+        ),
+        value: Place {
+            p: v,
+            d: Vec2 { x: m.u, y: m.v },
+        },
     }
 }
 
@@ -82,21 +111,61 @@ fn further(s: f64, u: Vec2, v: Vec2) -> CheckedNumber
     }
 }
 
-// A trace as 32 chords. A refusal of a place comes before any of a chord.
-fn traced(r: Run) -> CheckedMeasure
-    ensures refusal { λ o. ⌜ o .refusal ≡ tracedC r .refusal ⌝ }
-    ensures value { λ o. ⌜ o .value ≡ tracedC r .value ⌝ }
+// A wave as 32 chords. A refusal of a place comes before any of a chord.
+fn wave_traced(from: Vec2, to: Vec2, n: f64, w: Wave) -> CheckedMeasure
+    ensures refusal { λ o. ⌜ o .refusal ≡ tracedC (waveRun from to n w) .refusal ⌝ }
+    ensures value { λ o. ⌜ o .value ≡ tracedC (waveRun from to n w) .value ⌝ }
 {
-    let start = place(r, 0);
+    let t0 = (0 as f64) / 32.0;
+    let start = wave_at(w, from, to, n, t0);
     let mut before = start.value;
-    let mut rp: u8 = start.refusal;
+    let mut met: u8 = earlier(note(0, t0), start.refusal);
+    let mut length = 0.0;
+    let mut rl: u8 = 0;
+    let mut turn = 0.0;
+    let mut rt: u8 = 0;
+    let mut j: u16 = 0;
+    while j < 32 {
+        let next = wave_place(w, from, to, n, j + 1);
+        let after = next.value;
+        let l = longer(length, before.p, after.p);
+        let a = further(turn, before.d, after.d);
+        length = l.value;
+        rl = earlier(rl, l.refusal);
+        turn = a.value;
+        rt = earlier(rt, a.refusal);
+        before = after;
+        met = earlier(met, next.refusal);
+        j += 1;
+    }
+    CheckedMeasure {
+        refusal: earlier(met, earlier(rl, rt)),
+        value: Measure {
+            radius: 0.0,
+            turn: turn,
+            length: length,
+        },
+    }
+}
+
+// A meet as 32 chords, likewise.
+fn meet_traced(c: Course) -> CheckedMeasure
+    ensures refusal { λ o. ⌜ o .refusal ≡ tracedC (followed c) .refusal ⌝ }
+    ensures value { λ o. ⌜ o .value ≡ tracedC (followed c) .value ⌝ }
+{
+    let t0 = (0 as f64) / 32.0;
+    let start = courses::at(c, t0);
+    let mut before = start.value;
+    let mut rp: u8 = earlier(note(0, t0), start.refusal);
     let mut length = 0.0;
     let mut rl: u8 = 0;
     let mut turn = 0.0;
     let mut rt: u8 = 0;
     let mut k: u16 = 0;
     while k < 32 {
-        let next = place(r, k + 1);
+        let t = ((k + 1) as f64) / 32.0;
+        let m = motion(c, t);
+        let next = meet_place(c, t, m);
         let after = next.value;
         let l = longer(length, before.p, after.p);
         let a = further(turn, before.d, after.d);
@@ -160,7 +229,7 @@ pub fn measure_of(r: Run) -> CheckedMeasure
     match w {
         Way::Straight => segment(r.from, r.to),
         Way::Arc(a) => arc_measure(a, r.from, r.to),
-        Way::Wave(_) => traced(r),
-        Way::Meet(_) => traced(r),
+        Way::Wave(v) => wave_traced(r.from, r.to, r.neutral, v),
+        Way::Meet(c) => meet_traced(c),
     }
 }

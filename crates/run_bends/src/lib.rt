@@ -1,24 +1,35 @@
 // The second derivative of a piece of a development at t, on numbers of any size.
 ghost use mathlib.Core.Path.{_≡_};
+ghost use Rattle.pipes.specs.Pipes.{reachC};
 ghost use Rattle.run_bends.specs.Bends.{levelC, levelAtC, levelSlopeC, levelBendC, heightBendC, angleBendC, bendUC, bendVC, meetC, waveC, arcC, secondC};
 use checked::CheckedNumber;
 use checked::earlier;
 use checked::note;
+use circle::sincos;
 use courses::CheckedVec2;
 use courses::Course;
 use courses::angle;
 use courses::rate;
+use directions::formula::across;
 use meets::Turn;
+use pipes::CheckedReached;
 use pipes::Pipe;
-use pipes::reach;
+use pipes::Quadratic;
+use pipes::Reached;
+use pipes::lesser;
 use profiles::ProfileArc;
 use reaches::bend_at;
 use reaches::speed_at;
+use rounding::sqrt;
 use run_points::arc_point;
 use runs::Run;
 use runs::Way;
 use vectors::Vec2;
 use vectors::Vec3;
+use vectors::formula::dot;
+use vectors::formula::minus;
+use vectors::formula::plus;
+use vectors::formula::times;
 use waves::Wave;
 
 // The second derivatives of u along a hole, and of v, each with its refusal.
@@ -40,6 +51,43 @@ struct Levelled {
     r2: u8,
     z2: f64,
     rz: u8,
+}
+
+// `reach` of `pipes` once more: with one call it becomes a part of `levels`, and the pipe is not
+// copied.
+fn reach_here(p: Pipe, phi: f64) -> CheckedReached
+    ensures refusal { λ r. ⌜ r .refusal ≡ reachC p phi .refusal ⌝ }
+    ensures value { λ r. ⌜ r .value ≡ reachC p phi .value ⌝ }
+{
+    let x = sincos(phi);
+    let around = plus(times(p.e1, x.cos), times(p.e2, x.sin));
+    let p0 = plus(p.o, times(around, p.r));
+    let w = across(p.ma, minus(p0, p.mo));
+    let af = across(p.ma, p.a);
+    let aa = dot(af, af);
+    let b = dot(w, af);
+    let cc = dot(w, w) - p.mr * p.mr;
+    let root = sqrt(b * b - aa * cc);
+    let t = lesser(Quadratic {
+        aa: aa,
+        b: b,
+        cc: cc,
+        root: root,
+    });
+    CheckedReached {
+        refusal: earlier(note(x.refusal, root), t.refusal),
+        value: Reached {
+            s: x.sin,
+            c: x.cos,
+            around: around,
+            p0: p0,
+            w: w,
+            af: af,
+            aa: aa,
+            root: root,
+            t: t.value,
+        },
+    }
 }
 
 // x and y of p + a·t.
@@ -82,7 +130,7 @@ fn levels(p: Pipe, phi: f64) -> Levelled
     ensures z2 { λ r. ⌜ r .z2 ≡ heightBendC p phi .value ⌝ }
 {
     let a = p.a;
-    let x = reach(p, phi);
+    let x = reach_here(p, phi);
     let h = x.value;
     let y = speed_at(p, h);
     let s = y.value;

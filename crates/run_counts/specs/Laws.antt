@@ -1,11 +1,17 @@
 -- Which notes suffice of a count. Assumes nothing.
-use mathlib.Core.Path.{_≡_}
+use Prim.Native.Nat.{ℕ}
+use mathlib.Core.Path.{_≡_, refl}
 use lib.Ieee.{Float, binary64, mul, div}
 use Rattle.checked.specs.Checked.{Checked, first, nine}
 use Rattle.checked.specs.Laws.{rules as checked-rules}
 use Rattle.rounding.specs.Laws.{rules as rounding-rules}
+use Rattle.checked.specs.Numbers.{float}
+use Rattle.roots.specs.Roots.{hypot}
 use Rattle.roots.specs.Computations.{hypotC}
-use Rattle.run_counts.specs.Counts.{eight, steepC, offC}
+use Rattle.order.specs.Least.{greatest}
+use Rattle.courses.specs.declared.Course.{Course}
+use Rattle.run_bends.specs.Bends.{meetC}
+use Rattle.run_counts.specs.Counts.{eight, samples, steepC, offC, sampleC}
 
 pub steep-nine : (du amp n : Float) → steepC du amp n .refusal ≡ nine (steepC du amp n .value)
 unfolding steepC
@@ -17,3 +23,18 @@ unfolding offC
 off-refusal length amp n deviation = simp (checked-rules, rounding-rules)
 
 pub ruleset rules = (rounding-rules, hypotC, steep-nine)
+
+-- a sample by the second derivative there
+abbrev pub placeAt : ℕ → Float
+placeAt k = div binary64 (float k) samples
+
+abbrev pub bendAt : Course → ℕ → Float
+bendAt c k = hypot (meetC c (placeAt k) .value .x) (meetC c (placeAt k) .value .y)
+
+pub sample-refusal : (c : Course) (k : ℕ) (a : Float) → sampleC c k a .refusal ≡ first (nine (placeAt k)) (first (meetC c (placeAt k) .refusal) (nine (bendAt c k)))
+unfolding sampleC
+sample-refusal c k a = simp checked-rules
+
+pub sample-value : (c : Course) (k : ℕ) (a : Float) → sampleC c k a .value ≡ greatest a (bendAt c k)
+unfolding sampleC
+sample-value c k a = refl

@@ -1,6 +1,9 @@
 // Into how many pieces or chords a piece of a development is cut, on numbers of any size.
 ghost use mathlib.Core.Path.{_≡_};
-ghost use Rattle.run_counts.specs.Counts.{quadratureC, ownTurnC, chordsC, steepC, offC, waveLineC, sampleC, bendC, meetLineC, polylineC};
+ghost use Rattle.checked.specs.Checked.{first, nine};
+ghost use Rattle.order.specs.Least.{greatest};
+ghost use Rattle.roots.specs.Roots.{hypot};
+ghost use Rattle.run_counts.specs.Counts.{quadratureC, ownTurnC, chordsC, steepC, offC, waveLineC, bendC, meetLineC, polylineC};
 use checked::CheckedNumber;
 use checked::FRAC_PI_4;
 use checked::TAU;
@@ -10,6 +13,7 @@ use chords::formula::per_turn;
 use counts::CheckedCount;
 use counts::MOST;
 use counts::count;
+use courses::CheckedVec2;
 use courses::Course;
 use measures::measure_of;
 use order::greatest;
@@ -129,13 +133,12 @@ fn wave_line(w: Wave, from: Vec2, to: Vec2, n: f64, deviation: f64) -> CheckedCo
     }
 }
 
-// The greater of a bend and that of the sample k.
-fn sample(c: Course, k: u16, a: f64) -> CheckedNumber
-    ensures refusal { λ r. ⌜ r .refusal ≡ sampleC c k a .refusal ⌝ }
-    ensures value { λ r. ⌜ r .value ≡ sampleC c k a .value ⌝ }
+// The greater of a bend and that of a second derivative at t. The course itself would be copied at
+// each sample.
+fn sample(d: CheckedVec2, t: f64, a: f64) -> CheckedNumber
+    ensures refusal { λ r. ⌜ r .refusal ≡ first (nine t) (first (d .refusal) (nine (hypot (d .value .x) (d .value .y)))) ⌝ }
+    ensures value { λ r. ⌜ r .value ≡ greatest a (hypot (d .value .x) (d .value .y)) ⌝ }
 {
-    let t = (k as f64) / 256.0;
-    let d = meet_second(c, t);
     let h = hypot(d.value.x, d.value.y);
     CheckedNumber {
         refusal: note(earlier(note(0, t), d.refusal), h),
@@ -152,7 +155,9 @@ fn bend_of(c: Course) -> CheckedNumber
     let mut r: u8 = 0;
     let mut k: u16 = 0;
     while k < 257 {
-        let s = sample(c, k, a);
+        let t = (k as f64) / 256.0;
+        let d = meet_second(c, t);
+        let s = sample(d, t, a);
         a = s.value;
         r = earlier(r, s.refusal);
         k += 1;

@@ -26,7 +26,7 @@ pub struct CheckedSwung {
     pub refusal: u8,
 }
 
-fn straight_at(from: Vec2, to: Vec2, t: f64) -> CheckedPlace
+pub fn straight_at(from: Vec2, to: Vec2, t: f64) -> CheckedPlace
     ensures refusal { λ r. ⌜ r .refusal ≡ straightC from to t .refusal ⌝ }
     ensures value { λ r. ⌜ r .value ≡ straightC from to t .value ⌝ }
 {
@@ -84,7 +84,7 @@ pub fn arc_point(a: ProfileArc, from: Vec2, to: Vec2, t: f64) -> CheckedVec2
     }
 }
 
-fn arc_at(a: ProfileArc, from: Vec2, to: Vec2, t: f64) -> CheckedPlace
+pub fn arc_at(a: ProfileArc, from: Vec2, to: Vec2, t: f64) -> CheckedPlace
     ensures refusal { λ r. ⌜ r .refusal ≡ arcC a from to t .refusal ⌝ }
     ensures value { λ r. ⌜ r .value ≡ arcC a from to t .value ⌝ }
 {
@@ -102,7 +102,7 @@ fn arc_at(a: ProfileArc, from: Vec2, to: Vec2, t: f64) -> CheckedPlace
     }
 }
 
-fn wave_at(w: Wave, from: Vec2, to: Vec2, n: f64, t: f64) -> CheckedPlace
+pub fn wave_at(w: Wave, from: Vec2, to: Vec2, n: f64, t: f64) -> CheckedPlace
     ensures refusal { λ r. ⌜ r .refusal ≡ waveC w from to n t .refusal ⌝ }
     ensures value { λ r. ⌜ r .value ≡ waveC w from to n t .value ⌝ }
 {

@@ -1,5 +1,9 @@
+use mathlib.Core.Path.{_∙_, ap}
 use borrow.Author.Needs.{needs}
+use Rattle.checked.specs.Checked.{Checked}
+use Rattle.measures.specs.declared.Measure.{Measure}
 use Rattle.measures.specs.Measures.{measureC}
+use Rattle.measures.specs.Laws.{wave-known, meet-known}
 use Rattle.measures.proofs.measure_of.Statement.{statement}
 use Rattle.measures.proofs.measure_of.Tie as tie
 
@@ -15,17 +19,17 @@ enum-known-w c = search needs
 arc-measure-requires : tie.Need-arc-measure-requires
 arc-measure-requires c κs = search needs
 
-enum-told-2 : tie.Need-enum-told-2
-enum-told-2 c = search needs
+enum-known-w-2 : tie.Need-enum-known-w-2
+enum-known-w-2 c = search needs
 
-traced-requires : tie.Need-traced-requires
-traced-requires c κs = search needs
+wave-traced-requires : tie.Need-wave-traced-requires
+wave-traced-requires c κs = search needs
 
-enum-told-3 : tie.Need-enum-told-3
-enum-told-3 c = search needs
+enum-known-w-3 : tie.Need-enum-known-w-3
+enum-known-w-3 c = search needs
 
-traced-requires-2 : tie.Need-traced-requires-2
-traced-requires-2 c κs = search needs
+meet-traced-requires : tie.Need-meet-traced-requires
+meet-traced-requires c κs = search needs
 
 returns : tie.Need-returns
 unfolding measureC
@@ -36,12 +40,14 @@ unfolding measureC
 returns-2 c = (simp (c .arc-measure .ensures .0, c .before .before .w .given .1), simp (c .arc-measure .ensures .1, c .before .before .w .given .1))
 
 returns-3 : tie.Need-returns-3
-unfolding measureC
-returns-3 c = (simp (c .traced .ensures .0, c .before .enum-told2 .given .1), simp (c .traced .ensures .1, c .before .enum-told2 .given .1))
+returns-3 c =
+    let same = wave-known (c .before .before .before .before .args .r) _ (c .before .before .w2 .given .1) in
+    (c .wave-traced .ensures .0 ∙ ap (λ (q : Checked Measure). q .refusal) same, c .wave-traced .ensures .1 ∙ ap (λ (q : Checked Measure). q .value) same)
 
 returns-4 : tie.Need-returns-4
-unfolding measureC
-returns-4 c = (simp (c .traced2 .ensures .0, c .before .enum-told3 .given .1), simp (c .traced2 .ensures .1, c .before .enum-told3 .given .1))
+returns-4 c =
+    let same = meet-known (c .before .before .before .before .args .r) _ (c .before .before .w3 .given .1) in
+    (c .meet-traced .ensures .0 ∙ ap (λ (q : Checked Measure). q .refusal) same, c .meet-traced .ensures .1 ∙ ap (λ (q : Checked Measure). q .value) same)
 
 pub measure-of-spec : {M : Type 1} → statement M
 measure-of-spec =
@@ -51,10 +57,10 @@ measure-of-spec =
     segment-requires
     enum-known-w
     arc-measure-requires
-    enum-told-2
-    traced-requires
-    enum-told-3
-    traced-requires-2
+    enum-known-w-2
+    wave-traced-requires
+    enum-known-w-3
+    meet-traced-requires
     returns
     returns-2
     returns-3

@@ -7,8 +7,8 @@ use mathlib.Core.Path.{sym, _∙_}
 use Rattle.run_bends.proofs.levels.Statement.{statement}
 use Rattle.run_bends.proofs.levels.Tie as tie
 
-reach-requires : tie.Need-reach-requires
-reach-requires c κs = search needs
+reach-here-requires : tie.Need-reach-here-requires
+reach-here-requires c κs = search needs
 
 speed-at-requires : tie.Need-speed-at-requires
 speed-at-requires c κs = search needs
@@ -48,13 +48,13 @@ note-requires c κs = search needs
 
 returns : tie.Need-returns
 unfolding levelAtC levelSlopeC levelBendC heightBendC
-returns c = (simp (c .before .before .before .before .earlier3 .ensures, c .before .before .before .before .before .before .before .before .earlier2 .ensures, c .before .before .before .before .before .before .before .before .before .earlier .ensures, c .before .before .before .before .before .before .before .before .before .before .before .before .before .level3 .ensures .0, c .before .before .before .before .before .before .before .before .before .before .before .before .before .level3 .ensures .1, c .before .before .before .before .before .before .before .before .before .before .before .before .before .before .level2 .ensures .0, c .before .before .before .before .before .before .before .before .before .before .before .before .before .before .level2 .ensures .1, c .before .before .before .before .before .before .before .before .before .before .before .before .before .before .before .level .ensures .0, c .before .before .before .before .before .before .before .before .before .before .before .before .before .before .before .level .ensures .1, c .before .before .before .before .before .before .before .before .before .before .before .before .before .before .before .before .bend-at .ensures .0, c .before .before .before .before .before .before .before .before .before .before .before .before .before .before .before .before .bend-at .ensures .1, c .before .before .before .before .before .before .before .before .before .before .before .before .before .before .before .before .before .before .speed-at .ensures .0, c .before .before .before .before .before .before .before .before .before .before .before .before .before .before .before .before .before .before .speed-at .ensures .1, c .before .before .before .before .before .before .before .before .before .before .before .before .before .before .before .before .before .before .before .before .reach .ensures .0, c .before .before .before .before .before .before .before .before .before .before .before .before .before .before .before .before .before .before .before .before .reach .ensures .1), (simp (c .before .before .before .before .before .before .before .before .before .before .before .before .before .level3 .ensures .1, c .before .before .before .before .before .before .before .before .before .before .before .before .before .before .level2 .ensures .1, c .before .before .before .before .before .before .before .before .before .before .before .before .before .before .before .level .ensures .1, c .before .before .before .before .before .before .before .before .before .before .before .before .before .before .before .before .bend-at .ensures .1, c .before .before .before .before .before .before .before .before .before .before .before .before .before .before .before .before .before .before .speed-at .ensures .1, c .before .before .before .before .before .before .before .before .before .before .before .before .before .before .before .before .before .before .before .before .reach .ensures .1), (simp (c .before .before .earlier5 .ensures, c .before .before .before .earlier4 .ensures, c .before .before .before .before .before .before .before .before .earlier2 .ensures, c .before .before .before .before .before .before .before .before .before .earlier .ensures, c .before .before .before .before .before .before .before .before .before .before .before .before .before .level3 .ensures .0, c .before .before .before .before .before .before .before .before .before .before .before .before .before .level3 .ensures .1, c .before .before .before .before .before .before .before .before .before .before .before .before .before .before .level2 .ensures .0, c .before .before .before .before .before .before .before .before .before .before .before .before .before .before .level2 .ensures .1, c .before .before .before .before .before .before .before .before .before .before .before .before .before .before .before .level .ensures .0, c .before .before .before .before .before .before .before .before .before .before .before .before .before .before .before .level .ensures .1, c .before .before .before .before .before .before .before .before .before .before .before .before .before .before .before .before .bend-at .ensures .0, c .before .before .before .before .before .before .before .before .before .before .before .before .before .before .before .before .bend-at .ensures .1, c .before .before .before .before .before .before .before .before .before .before .before .before .before .before .before .before .before .before .speed-at .ensures .0, c .before .before .before .before .before .before .before .before .before .before .before .before .before .before .before .before .before .before .speed-at .ensures .1, c .before .before .before .before .before .before .before .before .before .before .before .before .before .before .before .before .before .before .before .before .reach .ensures .0, c .before .before .before .before .before .before .before .before .before .before .before .before .before .before .before .before .before .before .before .before .reach .ensures .1), (simp (c .before .before .before .before .before .before .before .before .before .before .before .before .before .level3 .ensures .1, c .before .before .before .before .before .before .before .before .before .before .before .before .before .before .level2 .ensures .1, c .before .before .before .before .before .before .before .before .before .before .before .before .before .before .before .level .ensures .1, c .before .before .before .before .before .before .before .before .before .before .before .before .before .before .before .before .bend-at .ensures .1, c .before .before .before .before .before .before .before .before .before .before .before .before .before .before .before .before .before .before .speed-at .ensures .1, c .before .before .before .before .before .before .before .before .before .before .before .before .before .before .before .before .before .before .before .before .reach .ensures .1), (simp (c .before .earlier6 .ensures, c .before .before .before .before .before .before .before .before .earlier2 .ensures, c .before .before .before .before .before .before .before .before .before .earlier .ensures, c .before .before .before .before .before .before .before .before .before .before .before .before .before .level3 .ensures .0, c .before .before .before .before .before .before .before .before .before .before .before .before .before .level3 .ensures .1, c .before .before .before .before .before .before .before .before .before .before .before .before .before .before .level2 .ensures .0, c .before .before .before .before .before .before .before .before .before .before .before .before .before .before .level2 .ensures .1, c .before .before .before .before .before .before .before .before .before .before .before .before .before .before .before .level .ensures .0, c .before .before .before .before .before .before .before .before .before .before .before .before .before .before .before .level .ensures .1, c .before .before .before .before .before .before .before .before .before .before .before .before .before .before .before .before .bend-at .ensures .0, c .before .before .before .before .before .before .before .before .before .before .before .before .before .before .before .before .bend-at .ensures .1, c .before .before .before .before .before .before .before .before .before .before .before .before .before .before .before .before .before .before .speed-at .ensures .0, c .before .before .before .before .before .before .before .before .before .before .before .before .before .before .before .before .before .before .speed-at .ensures .1, c .before .before .before .before .before .before .before .before .before .before .before .before .before .before .before .before .before .before .before .before .reach .ensures .0, c .before .before .before .before .before .before .before .before .before .before .before .before .before .before .before .before .before .before .before .before .reach .ensures .1, checked-rules), (simp (c .before .before .before .before .before .before .before .before .before .before .before .before .before .level3 .ensures .1, c .before .before .before .before .before .before .before .before .before .before .before .before .before .before .level2 .ensures .1, c .before .before .before .before .before .before .before .before .before .before .before .before .before .before .before .level .ensures .1, c .before .before .before .before .before .before .before .before .before .before .before .before .before .before .before .before .bend-at .ensures .1, c .before .before .before .before .before .before .before .before .before .before .before .before .before .before .before .before .before .before .speed-at .ensures .1, c .before .before .before .before .before .before .before .before .before .before .before .before .before .before .before .before .before .before .before .before .reach .ensures .1), ((simp (c .note .ensures, c .before .before .before .before .before .before .before .before .earlier2 .ensures, c .before .before .before .before .before .before .before .before .before .earlier .ensures, c .before .before .before .before .before .before .before .before .before .before .before .before .before .level3 .ensures .0, c .before .before .before .before .before .before .before .before .before .before .before .before .before .level3 .ensures .1, c .before .before .before .before .before .before .before .before .before .before .before .before .before .before .level2 .ensures .0, c .before .before .before .before .before .before .before .before .before .before .before .before .before .before .level2 .ensures .1, c .before .before .before .before .before .before .before .before .before .before .before .before .before .before .before .level .ensures .0, c .before .before .before .before .before .before .before .before .before .before .before .before .before .before .before .level .ensures .1, c .before .before .before .before .before .before .before .before .before .before .before .before .before .before .before .before .bend-at .ensures .0, c .before .before .before .before .before .before .before .before .before .before .before .before .before .before .before .before .bend-at .ensures .1, c .before .before .before .before .before .before .before .before .before .before .before .before .before .before .before .before .before .before .speed-at .ensures .0, c .before .before .before .before .before .before .before .before .before .before .before .before .before .before .before .before .before .before .speed-at .ensures .1, c .before .before .before .before .before .before .before .before .before .before .before .before .before .before .before .before .before .before .before .before .reach .ensures .0, c .before .before .before .before .before .before .before .before .before .before .before .before .before .before .before .before .before .before .before .before .reach .ensures .1, first-assoc)) ∙ sym (heightBend-refusal (c .before .before .before .before .before .before .before .before .before .before .before .before .before .before .before .before .before .before .before .before .before .before .args .p) (c .before .before .before .before .before .before .before .before .before .before .before .before .before .before .before .before .before .before .before .before .before .before .args .phi)), simp (c .before .before .before .before .before .before .before .before .before .before .before .before .before .level3 .ensures .1, c .before .before .before .before .before .before .before .before .before .before .before .before .before .before .level2 .ensures .1, c .before .before .before .before .before .before .before .before .before .before .before .before .before .before .before .level .ensures .1, c .before .before .before .before .before .before .before .before .before .before .before .before .before .before .before .before .bend-at .ensures .1, c .before .before .before .before .before .before .before .before .before .before .before .before .before .before .before .before .before .before .speed-at .ensures .1, c .before .before .before .before .before .before .before .before .before .before .before .before .before .before .before .before .before .before .before .before .reach .ensures .1))))))))
+returns c = (simp (c .before .before .before .before .earlier3 .ensures, c .before .before .before .before .before .before .before .before .earlier2 .ensures, c .before .before .before .before .before .before .before .before .before .earlier .ensures, c .before .before .before .before .before .before .before .before .before .before .before .before .before .level3 .ensures .0, c .before .before .before .before .before .before .before .before .before .before .before .before .before .level3 .ensures .1, c .before .before .before .before .before .before .before .before .before .before .before .before .before .before .level2 .ensures .0, c .before .before .before .before .before .before .before .before .before .before .before .before .before .before .level2 .ensures .1, c .before .before .before .before .before .before .before .before .before .before .before .before .before .before .before .level .ensures .0, c .before .before .before .before .before .before .before .before .before .before .before .before .before .before .before .level .ensures .1, c .before .before .before .before .before .before .before .before .before .before .before .before .before .before .before .before .bend-at .ensures .0, c .before .before .before .before .before .before .before .before .before .before .before .before .before .before .before .before .bend-at .ensures .1, c .before .before .before .before .before .before .before .before .before .before .before .before .before .before .before .before .before .before .speed-at .ensures .0, c .before .before .before .before .before .before .before .before .before .before .before .before .before .before .before .before .before .before .speed-at .ensures .1, c .before .before .before .before .before .before .before .before .before .before .before .before .before .before .before .before .before .before .before .before .reach-here .ensures .0, c .before .before .before .before .before .before .before .before .before .before .before .before .before .before .before .before .before .before .before .before .reach-here .ensures .1), (simp (c .before .before .before .before .before .before .before .before .before .before .before .before .before .level3 .ensures .1, c .before .before .before .before .before .before .before .before .before .before .before .before .before .before .level2 .ensures .1, c .before .before .before .before .before .before .before .before .before .before .before .before .before .before .before .level .ensures .1, c .before .before .before .before .before .before .before .before .before .before .before .before .before .before .before .before .bend-at .ensures .1, c .before .before .before .before .before .before .before .before .before .before .before .before .before .before .before .before .before .before .speed-at .ensures .1, c .before .before .before .before .before .before .before .before .before .before .before .before .before .before .before .before .before .before .before .before .reach-here .ensures .1), (simp (c .before .before .earlier5 .ensures, c .before .before .before .earlier4 .ensures, c .before .before .before .before .before .before .before .before .earlier2 .ensures, c .before .before .before .before .before .before .before .before .before .earlier .ensures, c .before .before .before .before .before .before .before .before .before .before .before .before .before .level3 .ensures .0, c .before .before .before .before .before .before .before .before .before .before .before .before .before .level3 .ensures .1, c .before .before .before .before .before .before .before .before .before .before .before .before .before .before .level2 .ensures .0, c .before .before .before .before .before .before .before .before .before .before .before .before .before .before .level2 .ensures .1, c .before .before .before .before .before .before .before .before .before .before .before .before .before .before .before .level .ensures .0, c .before .before .before .before .before .before .before .before .before .before .before .before .before .before .before .level .ensures .1, c .before .before .before .before .before .before .before .before .before .before .before .before .before .before .before .before .bend-at .ensures .0, c .before .before .before .before .before .before .before .before .before .before .before .before .before .before .before .before .bend-at .ensures .1, c .before .before .before .before .before .before .before .before .before .before .before .before .before .before .before .before .before .before .speed-at .ensures .0, c .before .before .before .before .before .before .before .before .before .before .before .before .before .before .before .before .before .before .speed-at .ensures .1, c .before .before .before .before .before .before .before .before .before .before .before .before .before .before .before .before .before .before .before .before .reach-here .ensures .0, c .before .before .before .before .before .before .before .before .before .before .before .before .before .before .before .before .before .before .before .before .reach-here .ensures .1), (simp (c .before .before .before .before .before .before .before .before .before .before .before .before .before .level3 .ensures .1, c .before .before .before .before .before .before .before .before .before .before .before .before .before .before .level2 .ensures .1, c .before .before .before .before .before .before .before .before .before .before .before .before .before .before .before .level .ensures .1, c .before .before .before .before .before .before .before .before .before .before .before .before .before .before .before .before .bend-at .ensures .1, c .before .before .before .before .before .before .before .before .before .before .before .before .before .before .before .before .before .before .speed-at .ensures .1, c .before .before .before .before .before .before .before .before .before .before .before .before .before .before .before .before .before .before .before .before .reach-here .ensures .1), (simp (c .before .earlier6 .ensures, c .before .before .before .before .before .before .before .before .earlier2 .ensures, c .before .before .before .before .before .before .before .before .before .earlier .ensures, c .before .before .before .before .before .before .before .before .before .before .before .before .before .level3 .ensures .0, c .before .before .before .before .before .before .before .before .before .before .before .before .before .level3 .ensures .1, c .before .before .before .before .before .before .before .before .before .before .before .before .before .before .level2 .ensures .0, c .before .before .before .before .before .before .before .before .before .before .before .before .before .before .level2 .ensures .1, c .before .before .before .before .before .before .before .before .before .before .before .before .before .before .before .level .ensures .0, c .before .before .before .before .before .before .before .before .before .before .before .before .before .before .before .level .ensures .1, c .before .before .before .before .before .before .before .before .before .before .before .before .before .before .before .before .bend-at .ensures .0, c .before .before .before .before .before .before .before .before .before .before .before .before .before .before .before .before .bend-at .ensures .1, c .before .before .before .before .before .before .before .before .before .before .before .before .before .before .before .before .before .before .speed-at .ensures .0, c .before .before .before .before .before .before .before .before .before .before .before .before .before .before .before .before .before .before .speed-at .ensures .1, c .before .before .before .before .before .before .before .before .before .before .before .before .before .before .before .before .before .before .before .before .reach-here .ensures .0, c .before .before .before .before .before .before .before .before .before .before .before .before .before .before .before .before .before .before .before .before .reach-here .ensures .1, checked-rules), (simp (c .before .before .before .before .before .before .before .before .before .before .before .before .before .level3 .ensures .1, c .before .before .before .before .before .before .before .before .before .before .before .before .before .before .level2 .ensures .1, c .before .before .before .before .before .before .before .before .before .before .before .before .before .before .before .level .ensures .1, c .before .before .before .before .before .before .before .before .before .before .before .before .before .before .before .before .bend-at .ensures .1, c .before .before .before .before .before .before .before .before .before .before .before .before .before .before .before .before .before .before .speed-at .ensures .1, c .before .before .before .before .before .before .before .before .before .before .before .before .before .before .before .before .before .before .before .before .reach-here .ensures .1), ((simp (c .note .ensures, c .before .before .before .before .before .before .before .before .earlier2 .ensures, c .before .before .before .before .before .before .before .before .before .earlier .ensures, c .before .before .before .before .before .before .before .before .before .before .before .before .before .level3 .ensures .0, c .before .before .before .before .before .before .before .before .before .before .before .before .before .level3 .ensures .1, c .before .before .before .before .before .before .before .before .before .before .before .before .before .before .level2 .ensures .0, c .before .before .before .before .before .before .before .before .before .before .before .before .before .before .level2 .ensures .1, c .before .before .before .before .before .before .before .before .before .before .before .before .before .before .before .level .ensures .0, c .before .before .before .before .before .before .before .before .before .before .before .before .before .before .before .level .ensures .1, c .before .before .before .before .before .before .before .before .before .before .before .before .before .before .before .before .bend-at .ensures .0, c .before .before .before .before .before .before .before .before .before .before .before .before .before .before .before .before .bend-at .ensures .1, c .before .before .before .before .before .before .before .before .before .before .before .before .before .before .before .before .before .before .speed-at .ensures .0, c .before .before .before .before .before .before .before .before .before .before .before .before .before .before .before .before .before .before .speed-at .ensures .1, c .before .before .before .before .before .before .before .before .before .before .before .before .before .before .before .before .before .before .before .before .reach-here .ensures .0, c .before .before .before .before .before .before .before .before .before .before .before .before .before .before .before .before .before .before .before .before .reach-here .ensures .1, first-assoc)) ∙ sym (heightBend-refusal (c .before .before .before .before .before .before .before .before .before .before .before .before .before .before .before .before .before .before .before .before .before .before .args .p) (c .before .before .before .before .before .before .before .before .before .before .before .before .before .before .before .before .before .before .before .before .before .before .args .phi)), simp (c .before .before .before .before .before .before .before .before .before .before .before .before .before .level3 .ensures .1, c .before .before .before .before .before .before .before .before .before .before .before .before .before .before .level2 .ensures .1, c .before .before .before .before .before .before .before .before .before .before .before .before .before .before .before .level .ensures .1, c .before .before .before .before .before .before .before .before .before .before .before .before .before .before .before .before .bend-at .ensures .1, c .before .before .before .before .before .before .before .before .before .before .before .before .before .before .before .before .before .before .speed-at .ensures .1, c .before .before .before .before .before .before .before .before .before .before .before .before .before .before .before .before .before .before .before .before .reach-here .ensures .1))))))))
 
 pub levels-spec : {M : Type 1} → statement M
 levels-spec =
     tie.close
     (tie.spec
-    reach-requires
+    reach-here-requires
     speed-at-requires
     bend-at-requires
     level-requires

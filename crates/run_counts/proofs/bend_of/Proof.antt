@@ -7,6 +7,7 @@ use Rattle.checked.specs.Numbers.{zero}
 use Rattle.loops.specs.Loops.{foldC}
 use Rattle.loops.specs.Laws.{Done, done-none, done-more}
 use Rattle.run_counts.specs.Counts.{sampleC, bendC}
+use Rattle.run_counts.specs.Laws.{sample-refusal, sample-value}
 use Rattle.run_counts.proofs.bend_of.Statement.{statement}
 use Rattle.run_counts.proofs.bend_of.Tie as tie
 
@@ -19,6 +20,12 @@ abbrev μ-loop : tie.MeasureT-loop
 
 loop-holds : tie.Need-loop-holds Inv-loop μ-loop
 loop-holds c = (omega arith, done-none _ _)
+
+int-to-float-t : tie.Need-int-to-float-t Inv-loop μ-loop
+int-to-float-t c = search needs
+
+meet-second-requires : tie.Need-meet-second-requires Inv-loop μ-loop
+meet-second-requires c κs = search needs
 
 sample-requires : tie.Need-sample-requires Inv-loop μ-loop
 sample-requires c κs = search needs
@@ -34,10 +41,11 @@ loop-less c = omega arith
 
 loop-again : tie.Need-loop-again Inv-loop μ-loop
 loop-again c =
-    let at = c .before .before .before .loop in
-    let less = c .before .before .loop-test .taken in
+    let at = c .before .before .before .before .before .loop in
+    let less = c .before .before .before .before .loop-test .taken in
     let d = done-more _ _ (at .k) (at .r) (at .a) (at .inv .1) in
-    (omega arith, simp (c .earlier .ensures, c .before .sample .ensures .0, c .before .sample .ensures .1) d)
+    let e = c .before .before .meet-second .ensures in
+    (omega (arith, less), simp (c .earlier .ensures, c .before .sample .ensures .0, c .before .sample .ensures .1, e .0, e .1) (rw (sample-refusal _ _ _, sample-value _ _ _) at d))
 
 returns : tie.Need-returns Inv-loop μ-loop
 unfolding bendC
@@ -54,6 +62,8 @@ bend-of-spec =
     Inv-loop
     μ-loop
     loop-holds
+    int-to-float-t
+    meet-second-requires
     sample-requires
     earlier-requires
     add-k
