@@ -1,14 +1,34 @@
-// A piece's formulas on numbers of any size. What follows a piece takes its run.
+// A piece's formulas on numbers of any size. What follows a piece takes its run, a record of 256
+// bytes that is copied where it is passed on; `at` works without it.
 ghost use mathlib.Core.Path.{_≡_};
+ghost use Rattle.checked.specs.Checked.{first};
+ghost use Rattle.meets.specs.Meets.{pipeC};
+ghost use Rattle.courses.specs.Courses as courses;
+ghost use Rattle.runs.specs.Runs as runs;
+ghost use Rattle.run_points.specs.Points.{atC};
+ghost use Rattle.pieces.specs.Laws.{courseOf, runBy};
 ghost use Rattle.pieces.specs.Pieces.{runC, back, normalC};
 use crate::Rolled;
 use checked::earlier;
+use courses::CheckedPlace;
+use courses::Course;
+use courses::Place;
+use courses::motion;
+use courses::placed;
+use meets::Meet;
+use meets::formula::pipe;
 use piece_normals::direction;
 use piece_normals::normal_of;
 use piece_parts::arc_back;
 use piece_parts::trace_back;
+use run_points::arc_at;
+use run_points::straight_at;
+use run_points::wave_at;
 use runs::CheckedRun;
+use runs::PieceArc;
+use runs::PieceTrace;
 use runs::run_of;
+use traces::Trace;
 use vectors::CheckedVec3;
 use vectors::Vec2;
 
@@ -56,5 +76,76 @@ pub fn normal(p: Rolled, q: Vec2, r: f64) -> CheckedVec3
     CheckedVec3 {
         refusal: earlier(x.refusal, n.refusal),
         value: v,
+    }
+}
+
+// ---- the point at t, and its derivative
+fn meet_at(from: Vec2, to: Vec2, n: f64, m: Meet, t: f64) -> CheckedPlace
+    ensures refusal { λ o. ⌜ o .refusal ≡ first (pipeC m n .refusal) (courses.atC (courseOf from to n m (pipeC m n .value)) t .refusal) ⌝ }
+    ensures value { λ o. ⌜ o .value ≡ courses.atC (courseOf from to n m (pipeC m n .value)) t .value ⌝ }
+{
+    let x = pipe(m, n);
+    let p = x.value;
+    let k = m.turn;
+    let c = Course {
+        from: from.x,
+        to: to.x,
+        neutral: n,
+        turn: k,
+        pipe: p,
+    };
+    let v = motion(c, t);
+    let q = placed(c, t, v.q);
+    let w = q.value;
+    CheckedPlace {
+        refusal: earlier(
+            x.refusal,
+            earlier(v.ru, earlier(v.rv, earlier(v.rq, q.refusal))),
+        ),
+        value: Place {
+            p: w,
+            d: Vec2 { x: v.u, y: v.v },
+        },
+    }
+}
+
+fn traced_at(from: Vec2, to: Vec2, n: f64, f: Trace, t: f64) -> CheckedPlace
+    ensures refusal { λ o. ⌜ o .refusal ≡ first (runs.tracedC from to n f .refusal) (atC (runBy from to n (runs.tracedC from to n f .value)) t .refusal) ⌝ }
+    ensures value { λ o. ⌜ o .value ≡ atC (runBy from to n (runs.tracedC from to n f .value)) t .value ⌝ }
+{
+    match f {
+        Trace::Wave(w) => wave_at(w, from, to, n, t),
+        Trace::Meet(m) => meet_at(from, to, n, m, t),
+    }
+}
+
+// What a call gave is taken apart: as a whole it would go through memory, its refusal's byte read
+// with the seven beside it.
+fn untraced_at(from: Vec2, to: Vec2, n: f64, a: PieceArc, t: f64) -> CheckedPlace
+    ensures refusal { λ o. ⌜ o .refusal ≡ atC (runBy from to n (runs.untraced a)) t .refusal ⌝ }
+    ensures value { λ o. ⌜ o .value ≡ atC (runBy from to n (runs.untraced a)) t .value ⌝ }
+{
+    match a {
+        PieceArc::Without => straight_at(from, to, t),
+        PieceArc::With(c) => {
+            let p = arc_at(c, from, to, t);
+            let v = p.value;
+            CheckedPlace {
+                refusal: p.refusal,
+                value: v,
+            }
+        }
+    }
+}
+
+pub fn at(p: Rolled, t: f64) -> CheckedPlace
+    ensures refusal { λ o. ⌜ o .refusal ≡ first (runC p .refusal) (atC (runC p .value) t .refusal) ⌝ }
+    ensures value { λ o. ⌜ o .value ≡ atC (runC p .value) t .value ⌝ }
+{
+    let a = p.arc;
+    let k = p.trace;
+    match k {
+        PieceTrace::Without => untraced_at(p.from, p.to, p.dev.neutral, a, t),
+        PieceTrace::With(f) => traced_at(p.from, p.to, p.dev.neutral, f, t),
     }
 }

@@ -2,6 +2,7 @@
 ghost use mathlib.Core.Path.{_≡_};
 ghost use Rattle.checked.specs.Checked.{first, settled};
 ghost use Rattle.pieces.specs.Entries.{placeDue, flatDue, pieceDue, measuredDue, countDue, boxDue, pieceWithin, tests, atDue, secondDue, reversedDue, measureDue, quadratureDue, chordsDue, polylineDue, uvBoxDue, normalDue};
+ghost use Rattle.developments.specs.Developments.{developmentWithin};
 ghost use Rattle.vectors.specs.Entries.{vectorDue};
 use checked::earlier;
 use checked::is_within;
@@ -22,7 +23,6 @@ use run_boxes::uv_box;
 use run_counts::chords_of;
 use run_counts::polyline_of;
 use run_counts::quadrature_pieces;
-use run_points::at;
 use runs::PieceArc;
 use runs::PieceTrace;
 use vectors::Vec2;
@@ -78,11 +78,11 @@ pub enum RolledBox {
     Refused(u8),
 }
 
-// ---- the value, or the refusal met first, where there is one: r before it
-fn settle_place(r: u8, c: CheckedPlace) -> RolledPoint
-    ensures { λ o. ⌜ placeDue o ≡ settled (first r (c .refusal)) (c .value) ⌝ }
+// ---- the value, or the refusal met first, where there is one
+fn settle_place(c: CheckedPlace) -> RolledPoint
+    ensures { λ o. ⌜ placeDue o ≡ settled (c .refusal) (c .value) ⌝ }
 {
-    let n = earlier(r, c.refusal);
+    let n = c.refusal;
     let v = c.value;
     if n == 0 {
         RolledPoint::Value(v)
@@ -91,6 +91,7 @@ fn settle_place(r: u8, c: CheckedPlace) -> RolledPoint
     }
 }
 
+// ---- and of a computation on a run, which may have met the refusal r before
 fn settle_second(r: u8, c: CheckedVec2) -> RolledSecond
     ensures { λ o. ⌜ flatDue o ≡ settled (first r (c .refusal)) (c .value) ⌝ }
 {
@@ -138,6 +139,18 @@ fn settle_box(r: u8, c: CheckedBox) -> RolledBox
     }
 }
 
+// All numbers of a development pass the test of what is handed in. They are tried two by two as they
+// stand in memory: read across the pairs in which they were stored they would have to wait for that.
+fn is_development_within(d: Development) -> bool
+    ensures { λ r. ⌜ r ≡ developmentWithin d ⌝ }
+{
+    (is_within(d.origin.x) & is_within(d.origin.y))
+        & ((is_within(d.origin.z) & is_within(d.axis.x))
+            & ((is_within(d.axis.y) & is_within(d.axis.z))
+                & ((is_within(d.start.x) & is_within(d.start.y))
+                    & (is_within(d.start.z) & is_within(d.neutral)))))
+}
+
 impl Rolled {
     // All numbers of the piece pass the test of what is handed in.
     pub fn is_within_limit(self) -> bool
@@ -148,7 +161,7 @@ impl Rolled {
         let g = self.to;
         let a = self.arc;
         let t = self.trace;
-        d.is_within_limit()
+        is_development_within(d)
             & (is_within2(f) & (is_within2(g) & (is_arc_within(a) & is_trace_within(t))))
     }
 
@@ -168,9 +181,7 @@ impl Rolled {
     {
         let n = self.tried(is_within(t), true);
         if n == 0 {
-            let x = formula::run(self);
-            let r = x.value;
-            settle_place(x.refusal, at(r, t))
+            settle_place(formula::at(self, t))
         } else {
             RolledPoint::Refused(n)
         }

@@ -11,9 +11,6 @@ is-within-requires c κs = search needs
 tried-requires : tie.Need-tried-requires
 tried-requires c κs = search needs
 
-run-requires : tie.Need-run-requires
-run-requires c κs = search needs
-
 at-requires : tie.Need-at-requires
 at-requires c κs = search needs
 
@@ -22,7 +19,7 @@ settle-place-requires c κs = search needs
 
 returns : tie.Need-returns
 unfolding atDue
-returns c = simp (c .settle-place .ensures, c .before .at .ensures .0, c .before .at .ensures .1, c .before .before .before .run .ensures .0, c .before .before .before .run .ensures .1, c .before .before .before .before .if1 .taken, passing-none, ← c .before .before .before .before .before .tried .ensures, ← c .before .before .before .before .before .before .is-within .ensures)
+returns c = simp (c .settle-place .ensures, c .before .at .ensures .0, c .before .at .ensures .1, c .before .before .if1 .taken, passing-none, ← c .before .before .before .tried .ensures, ← c .before .before .before .before .is-within .ensures)
 
 returns-2 : tie.Need-returns-2
 unfolding atDue
@@ -34,7 +31,6 @@ at-spec =
     (tie.spec
     is-within-requires
     tried-requires
-    run-requires
     at-requires
     settle-place-requires
     returns

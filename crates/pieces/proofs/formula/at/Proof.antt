@@ -1,0 +1,38 @@
+use borrow.Author.Needs.{needs}
+use Rattle.checked.specs.Laws.{zero-first, first-zero}
+use Rattle.runs.specs.Runs.{wayC}
+use Rattle.runs.specs.Runs as runs
+use Rattle.pieces.specs.Pieces.{runC}
+use Rattle.pieces.proofs.formula.at.Statement.{statement}
+use Rattle.pieces.proofs.formula.at.Tie as tie
+
+enum-told : tie.Need-enum-told
+enum-told c = search needs
+
+untraced-at-requires : tie.Need-untraced-at-requires
+untraced-at-requires c κs = search needs
+
+enum-known-k : tie.Need-enum-known-k
+enum-known-k c = search needs
+
+traced-at-requires : tie.Need-traced-at-requires
+traced-at-requires c κs = search needs
+
+returns : tie.Need-returns
+unfolding runC runs.runC wayC
+returns c = (simp (c .untraced-at .ensures .0, c .before .enum-told .given .1, zero-first), simp (c .untraced-at .ensures .1, c .before .enum-told .given .1))
+
+returns-2 : tie.Need-returns-2
+unfolding runC runs.runC wayC
+returns-2 c = (simp (c .traced-at .ensures .0, c .before .before .k .given .1, first-zero), simp (c .traced-at .ensures .1, c .before .before .k .given .1))
+
+pub at-spec : {M : Type 1} → statement M
+at-spec =
+    tie.close
+    (tie.spec
+    enum-told
+    untraced-at-requires
+    enum-known-k
+    traced-at-requires
+    returns
+    returns-2)
