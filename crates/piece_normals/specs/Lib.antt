@@ -1,1 +1,2 @@
 pub mod Normals
+pub mod Laws

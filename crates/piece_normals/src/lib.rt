@@ -15,7 +15,6 @@ use meets::Meet;
 use meets::Turn;
 use meets::formula::pipe;
 use profiles::ProfileArc;
-use rolls::along;
 use rolls::radial;
 use runs::PieceArc;
 use runs::PieceTrace;
@@ -25,6 +24,8 @@ use vectors::Vec2;
 use vectors::Vec3;
 use vectors::formula::cross;
 use vectors::formula::noted;
+use vectors::formula::plus;
+use vectors::formula::times;
 use waves::Wave;
 
 // From one point to another.
@@ -181,13 +182,15 @@ pub fn normal_of(axis: Vec3, start: Vec3, n: f64, p: Vec2, d: Vec2, r: f64) -> C
     ensures refusal { λ v. ⌜ v .refusal ≡ normalC axis start n p d r .refusal ⌝ }
     ensures value { λ v. ⌜ v .value ≡ normalC axis start n p d r .value ⌝ }
 {
+    // `along` of `rolls` would work out the radial again.
     let a = radial(axis, start, n, p.x);
-    let b = along(axis, start, n, p, d, r);
-    let c = cross(a.value, b.value);
+    let av = a.value;
+    let b = plus(times(cross(axis, av), d.x * r / n), times(axis, d.y));
+    let c = cross(av, b);
     let u = unit(c);
     let v = u.value;
     CheckedVec3 {
-        refusal: earlier(noted(c, earlier(a.refusal, b.refusal)), u.refusal),
+        refusal: earlier(noted(c, a.refusal), u.refusal),
         value: v,
     }
 }
