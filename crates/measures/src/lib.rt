@@ -187,7 +187,7 @@ fn meet_traced(c: Course) -> CheckedMeasure
     }
 }
 
-fn segment(from: Vec2, to: Vec2) -> CheckedMeasure
+pub fn segment(from: Vec2, to: Vec2) -> CheckedMeasure
     ensures refusal { λ r. ⌜ r .refusal ≡ segmentC from to .refusal ⌝ }
     ensures value { λ r. ⌜ r .value ≡ segmentC from to .value ⌝ }
 {
@@ -202,7 +202,7 @@ fn segment(from: Vec2, to: Vec2) -> CheckedMeasure
     }
 }
 
-fn arc_measure(a: ProfileArc, from: Vec2, to: Vec2) -> CheckedMeasure
+pub fn arc_measure(a: ProfileArc, from: Vec2, to: Vec2) -> CheckedMeasure
     ensures refusal { λ r. ⌜ r .refusal ≡ arcC a from to .refusal ⌝ }
     ensures value { λ r. ⌜ r .value ≡ arcC a from to .value ⌝ }
 {

@@ -1,11 +1,12 @@
 // A piece's formulas on numbers of any size. What follows a piece takes its run, a record of 256
-// bytes that is copied where it is passed on; `at` works without it.
+// bytes that is copied where it is passed on; `at` works without it, and `measure` without a trace.
 ghost use mathlib.Core.Path.{_≡_};
 ghost use Rattle.checked.specs.Checked.{first};
 ghost use Rattle.meets.specs.Meets.{pipeC};
 ghost use Rattle.courses.specs.Courses as courses;
 ghost use Rattle.runs.specs.Runs as runs;
 ghost use Rattle.run_points.specs.Points.{atC};
+ghost use Rattle.measures.specs.Measures.{measureC};
 ghost use Rattle.pieces.specs.Laws.{courseOf, runBy};
 ghost use Rattle.pieces.specs.Pieces.{runC, back, normalC};
 use crate::Rolled;
@@ -15,6 +16,10 @@ use courses::Course;
 use courses::Place;
 use courses::motion;
 use courses::placed;
+use measures::CheckedMeasure;
+use measures::arc_measure;
+use measures::measure_of;
+use measures::segment;
 use meets::Meet;
 use meets::formula::pipe;
 use piece_normals::direction;
@@ -147,5 +152,49 @@ pub fn at(p: Rolled, t: f64) -> CheckedPlace
     match k {
         PieceTrace::Without => untraced_at(p.from, p.to, p.dev.neutral, a, t),
         PieceTrace::With(f) => traced_at(p.from, p.to, p.dev.neutral, f, t),
+    }
+}
+
+// ---- the radius, the turn and the length
+fn untraced_measure(from: Vec2, to: Vec2, n: f64, a: PieceArc) -> CheckedMeasure
+    ensures refusal { λ o. ⌜ o .refusal ≡ measureC (runBy from to n (runs.untraced a)) .refusal ⌝ }
+    ensures value { λ o. ⌜ o .value ≡ measureC (runBy from to n (runs.untraced a)) .value ⌝ }
+{
+    match a {
+        PieceArc::Without => segment(from, to),
+        PieceArc::With(c) => {
+            let p = arc_measure(c, from, to);
+            let v = p.value;
+            CheckedMeasure {
+                refusal: p.refusal,
+                value: v,
+            }
+        }
+    }
+}
+
+fn run_measure(p: Rolled) -> CheckedMeasure
+    ensures refusal { λ o. ⌜ o .refusal ≡ first (runC p .refusal) (measureC (runC p .value) .refusal) ⌝ }
+    ensures value { λ o. ⌜ o .value ≡ measureC (runC p .value) .value ⌝ }
+{
+    let x = run(p);
+    let r = x.value;
+    let m = measure_of(r);
+    let v = m.value;
+    CheckedMeasure {
+        refusal: earlier(x.refusal, m.refusal),
+        value: v,
+    }
+}
+
+pub fn measure(p: Rolled) -> CheckedMeasure
+    ensures refusal { λ o. ⌜ o .refusal ≡ first (runC p .refusal) (measureC (runC p .value) .refusal) ⌝ }
+    ensures value { λ o. ⌜ o .value ≡ measureC (runC p .value) .value ⌝ }
+{
+    let a = p.arc;
+    let k = p.trace;
+    match k {
+        PieceTrace::Without => untraced_measure(p.from, p.to, p.dev.neutral, a),
+        PieceTrace::With(_) => run_measure(p),
     }
 }

@@ -13,7 +13,6 @@ use courses::Place;
 use developments::Development;
 use measures::CheckedMeasure;
 use measures::Measure;
-use measures::measure_of;
 use piece_parts::are_both;
 use piece_parts::is_arc_within;
 use piece_parts::is_trace_within;
@@ -91,6 +90,18 @@ fn settle_place(c: CheckedPlace) -> RolledPoint
     }
 }
 
+fn settle_measure(c: CheckedMeasure) -> RolledMeasure
+    ensures { λ o. ⌜ measuredDue o ≡ settled (c .refusal) (c .value) ⌝ }
+{
+    let n = c.refusal;
+    let v = c.value;
+    if n == 0 {
+        RolledMeasure::Value(v)
+    } else {
+        RolledMeasure::Refused(n)
+    }
+}
+
 // ---- and of a computation on a run, which may have met the refusal r before
 fn settle_second(r: u8, c: CheckedVec2) -> RolledSecond
     ensures { λ o. ⌜ flatDue o ≡ settled (first r (c .refusal)) (c .value) ⌝ }
@@ -101,18 +112,6 @@ fn settle_second(r: u8, c: CheckedVec2) -> RolledSecond
         RolledSecond::Value(v)
     } else {
         RolledSecond::Refused(n)
-    }
-}
-
-fn settle_measure(r: u8, c: CheckedMeasure) -> RolledMeasure
-    ensures { λ o. ⌜ measuredDue o ≡ settled (first r (c .refusal)) (c .value) ⌝ }
-{
-    let n = earlier(r, c.refusal);
-    let v = c.value;
-    if n == 0 {
-        RolledMeasure::Value(v)
-    } else {
-        RolledMeasure::Refused(n)
     }
 }
 
@@ -219,9 +218,7 @@ impl Rolled {
     {
         let n = self.tried(true, true);
         if n == 0 {
-            let x = formula::run(self);
-            let r = x.value;
-            settle_measure(x.refusal, measure_of(r))
+            settle_measure(formula::measure(self))
         } else {
             RolledMeasure::Refused(n)
         }

@@ -1,22 +1,17 @@
-use borrow.Author.Needs.{needs}
 use Rattle.checked.specs.Laws.{settled-some, settled-none}
 use mathlib.Core.Path.{sym}
 use Rattle.pieces.proofs.settle_measure.Statement.{statement}
 use Rattle.pieces.proofs.settle_measure.Tie as tie
 
-earlier-requires : tie.Need-earlier-requires
-earlier-requires c κs = search needs
-
 returns : tie.Need-returns
-returns c = simp (← c .before .before .earlier .ensures, c .if1 .taken, settled-none)
+returns c = simp (c .if1 .taken, settled-none)
 
 returns-2 : tie.Need-returns-2
-returns-2 c = simp (← c .before .before .earlier .ensures) (sym (settled-some _ _ (c .if1 .left)))
+returns-2 c = sym (settled-some _ _ (c .if1 .left))
 
 pub settle-measure-spec : {M : Type 1} → statement M
 settle-measure-spec =
     tie.close
     (tie.spec
-    earlier-requires
     returns
     returns-2)

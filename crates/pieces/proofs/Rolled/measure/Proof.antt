@@ -8,18 +8,15 @@ use Rattle.pieces.proofs.Rolled.measure.Tie as tie
 tried-requires : tie.Need-tried-requires
 tried-requires c κs = search needs
 
-run-requires : tie.Need-run-requires
-run-requires c κs = search needs
-
-measure-of-requires : tie.Need-measure-of-requires
-measure-of-requires c κs = search needs
+measure-requires : tie.Need-measure-requires
+measure-requires c κs = search needs
 
 settle-measure-requires : tie.Need-settle-measure-requires
 settle-measure-requires c κs = search needs
 
 returns : tie.Need-returns
 unfolding measureDue
-returns c = simp (c .settle-measure .ensures, c .before .measure-of .ensures .0, c .before .measure-of .ensures .1, c .before .before .before .run .ensures .0, c .before .before .before .run .ensures .1, c .before .before .before .before .if1 .taken, passing-none, ← c .before .before .before .before .before .tried .ensures)
+returns c = simp (c .settle-measure .ensures, c .before .measure .ensures .0, c .before .measure .ensures .1, c .before .before .if1 .taken, passing-none, ← c .before .before .before .tried .ensures)
 
 returns-2 : tie.Need-returns-2
 unfolding measureDue
@@ -30,8 +27,7 @@ measure-spec =
     tie.close
     (tie.spec
     tried-requires
-    run-requires
-    measure-of-requires
+    measure-requires
     settle-measure-requires
     returns
     returns-2)

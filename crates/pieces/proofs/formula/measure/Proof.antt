@@ -1,0 +1,37 @@
+use borrow.Author.Needs.{needs}
+use Rattle.checked.specs.Laws.{zero-first}
+use Rattle.runs.specs.Runs.{wayC}
+use Rattle.runs.specs.Runs as runs
+use Rattle.pieces.specs.Pieces.{runC}
+use Rattle.pieces.proofs.formula.measure.Statement.{statement}
+use Rattle.pieces.proofs.formula.measure.Tie as tie
+
+enum-told : tie.Need-enum-told
+enum-told c = search needs
+
+untraced-measure-requires : tie.Need-untraced-measure-requires
+untraced-measure-requires c κs = search needs
+
+enum-told-2 : tie.Need-enum-told-2
+enum-told-2 c = search needs
+
+run-measure-requires : tie.Need-run-measure-requires
+run-measure-requires c κs = search needs
+
+returns : tie.Need-returns
+unfolding runC runs.runC wayC
+returns c = (simp (c .untraced-measure .ensures .0, c .before .enum-told .given .1, zero-first), simp (c .untraced-measure .ensures .1, c .before .enum-told .given .1))
+
+returns-2 : tie.Need-returns-2
+returns-2 c = (c .run-measure .ensures .0, c .run-measure .ensures .1)
+
+pub measure-spec : {M : Type 1} → statement M
+measure-spec =
+    tie.close
+    (tie.spec
+    enum-told
+    untraced-measure-requires
+    enum-told-2
+    run-measure-requires
+    returns
+    returns-2)
