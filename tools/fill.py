@@ -12,15 +12,15 @@ It unfolds the crate's own unfoldable definitions that the function's `ensures` 
 The outcome of a test of two whole numbers goes in as each test of a definition that it settles (`a < b` as `ltb a b` and
 as `leb b a`), and what a call that gives a whole number ensures goes in from right to left: the definition's word
 becomes the number that the code tested.
-An entry that begins with `handed::tried` answers by the laws of `passing`.
+An entry that begins with `checked::handed::tried` answers by the laws of `passing`.
 What a `simp` did not apply goes out again by `tools/trim.py CRATE`.
-The rules are the ruleset `rules` of each Laws.antt in the specs/ of the crate and of the crates that it needs, if there.
+The rules are the ruleset `rules` of each page …Laws.antt in the specs/ of the crate and of the crates that it needs, if there.
 A function with a loop keeps the holes of its invariant and measure. What does not close is left for you to edit.
 """
 import os, re, subprocess, sys
 
 # the function that gives the number of the first test of what was handed in that fails, 0 for none
-TRIED = 'handed::tried'
+TRIED = 'checked::handed::tried'
 
 def read(path):
     return open(path, encoding='utf-8').read() if os.path.exists(path) else ''
@@ -28,8 +28,8 @@ def read(path):
 def crate_sources(crate):
     """the path of each source file's module, as crate::formula, and its text"""
     d = f'crates/{crate}/src'
-    files = sorted(f[:-3] for f in os.listdir(d) if f.endswith('.rt')) if os.path.isdir(d) else []
-    return [(crate if f in ('lib', 'main') else f'{crate}::{f}', read(f'{d}/{f}.rt')) for f in files]
+    files = sorted(os.path.relpath(os.path.join(at, f), d)[:-3] for at, _, fs in os.walk(d) for f in fs if f.endswith('.rt'))
+    return [(crate if f in ('lib', 'main') else '::'.join([crate] + f.split(os.sep)), read(f'{d}/{f}.rt')) for f in files]
 
 def needs_of(crate):
     deps = dict(re.findall(r'^(\w+):(.*)$', read('crates.txt'), re.M))
@@ -157,9 +157,11 @@ def main():
     rules = []
     direct = dict(re.findall(r'^(\w+):(.*)$', read('crates.txt'), re.M)).get(crate, '').split()
     for c in [c for c in below if c in direct] + [crate]:
-        if re.search(r'^pub ruleset rules\b|^ruleset rules\b', read(f'crates/{c}/specs/Laws.antt'), re.M):
-            mod = f'Rattle.{c}.specs.Laws' if c == crate else f'Rattle.{c}.specs.Laws'
-            rules.append((f'use {mod}.{{rules as {c}-rules}}', f'{c}-rules'))
+        for page in sorted(f[:-5] for f in os.listdir(f'crates/{c}/specs') if f.endswith('Laws.antt')) if os.path.isdir(f'crates/{c}/specs') else []:
+            if re.search(r'^pub ruleset rules\b|^ruleset rules\b', read(f'crates/{c}/specs/{page}.antt'), re.M):
+                mod = f'Rattle.{c}.specs.{page}' if c == crate else f'Rattle.{c}.specs.{page}'
+                of = re.sub(r'(?<!^)(?=[A-Z])', '_', page[:-4]).lower() or c
+                rules.append((f'use {mod}.{{rules as {of}-rules}}', f'{of}-rules'))
     # laws NAME-refusal of the definitions NAMEC: which notes suffice
     laws = {}
     for f in sorted(os.listdir(f'crates/{crate}/specs')) if os.path.isdir(f'crates/{crate}/specs') else []:
@@ -239,7 +241,7 @@ def main():
             uses.append('use Rattle.checked.specs.Laws.{settled-some, settled-none}' if crate != 'checked' else 'use Rattle.checked.specs.Laws.{settled-some, settled-none}')
         passing = [l for l in ('passing-none', 'passing-some') if l in text]
         if passing:
-            uses.append('use Rattle.handed.specs.Laws.{' + ', '.join(passing) + '}')
+            uses.append('use Rattle.checked.specs.HandedLaws.{' + ', '.join(passing) + '}')
         tests = [l for l in ('lt-ltb', 'le-ltb', 'le-leb', 'lt-leb', 'eq-eqb', 'ne-eqb') if l + ' _ _' in text]
         if tests:
             uses.append('use borrow.Author.Tests.{' + ', '.join(tests) + '}')

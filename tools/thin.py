@@ -46,7 +46,7 @@ def store(crate, mod, text):
         if body.count('=>') != 2:
             print('not of the shape:', fn)
             continue
-        laws = 'Rattle.records.specs.Records' if crate == 'records' else 'Rattle.records.specs.Records'
+        laws = 'Rattle.c_arrays.specs.Records' if crate == 'records' else 'Rattle.c_arrays.specs.Records'
         writes = numbered([f'element-write-{out}'] * len(re.findall(rf'{out}\[\d+\] = ', body)), str, lambda n, k: f'{n}-{k}')
         needs = [f'enum-known-{a}'] + writes + [f'enum-known-{a}-2', 'cast-result']
         known = [f'simp (c .before .{a}{k} .given .1)' for k in ('', '2')]
@@ -78,8 +78,8 @@ def exported(crate, mod, text):
         if tests:
             known = f'sym (c{" .before" * (at + 1)} .{fields[0]} .ensures) ∙ c{" .before" * at} .if1 .taken'
             unknown = f'simp (sym (c .before .{fields[0]} .ensures) ∙ c .if1 .left)'
-            uses = ['use mathlib.Core.Path.{sym, _∙_}'] + uses + [f'use Rattle.records.specs.Records.{{{", ".join(w for w in used if w != "stored")}}}']
-            uses += ['use Rattle.piece_stores.specs.Stores.{stored}'] * ('stored' in used)
+            uses = ['use mathlib.Core.Path.{sym, _∙_}'] + uses + [f'use Rattle.c_arrays.specs.Records.{{{", ".join(w for w in used if w != "stored")}}}']
+            uses += ['use Rattle.c_shapes.specs.Stores.{stored}'] * ('stored' in used)
             each = unknown
             for _ in range(clauses - 1):
                 each = f'({unknown}, {each})'

@@ -11,10 +11,10 @@ use Rattle.vectors.specs.declared.Vec3.{Vec3}
 use Rattle.boxes.specs.declared.Bounds.{Bounds}
 use Rattle.boxes.specs.Boxes.{boxCall, passed}
 use Rattle.rows.specs.Rows.{andThen}
-use Rattle.sweeps.specs.Sweeps.{circleWithin, endsWithin, sweepC}
-use Rattle.spokes.specs.Spokes.{angleWithin, atC}
-use Rattle.extremes.specs.Extremes.{pointsC}
-use Rattle.cuts.specs.Cuts.{chordWithin, cutC, innersDue}
+use Rattle.arcs.specs.Sweeps.{circleWithin, endsWithin, sweepC}
+use Rattle.arcs.specs.Spokes.{angleWithin, atC}
+use Rattle.arcs.specs.Extremes.{pointsC}
+use Rattle.arcs.specs.Cuts.{chordWithin, cutC, innersDue}
 use Rattle.arcs.specs.declared.Arc.{Arc}
 use Rattle.arcs.specs.declared.ArcAnswer.{ArcAnswer}
 use Rattle.arcs.specs.declared.ArcAnswer.the-variants as answer

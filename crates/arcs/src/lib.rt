@@ -7,6 +7,12 @@ ghost use lib.ListN.{length};
 ghost use Rattle.boxes.specs.Boxes.{widenedDue, outcome, Lent};
 ghost use Rattle.rows.specs.Rows.{numberOf, partOf, Drawn};
 ghost use Rattle.arcs.specs.Entries.{innerPointsDue, arcDue, reversedDue, sweepDue, atDue, extendDue};
+use crate::chords::chord_within;
+use crate::chords::cut_up;
+use crate::chords::write_points;
+use crate::points::angle_within;
+use crate::sweep::circle_within;
+use crate::sweep::ends_within;
 use boxes::Bounds;
 use boxes::CheckedBounds;
 use boxes::Outcome;
@@ -15,17 +21,15 @@ use checked::BAD_BOX_OR_SUMS;
 use checked::BAD_TOLERANCE;
 use checked::Number;
 use checked::OUT_OF_RANGE;
-use cuts::chord_within;
-use cuts::cut_up;
-use cuts::write_points;
 use rows::Written;
-use spokes::angle_within;
-use sweeps::circle_within;
-use sweeps::ends_within;
 use vectors::Vec3;
 use vectors::Vector;
 
+pub mod chords;
+pub mod extremes;
 pub mod formula;
+pub mod points;
+pub mod sweep;
 
 // An arc counterclockwise about `axis`, a unit vector, around `center`.
 pub struct Arc {
@@ -77,7 +81,7 @@ impl Arc {
         ensures { λ r. ⌜ numberDue r ≡ sweepDue self from to ⌝ }
     {
         if ends_within(self.center, self.axis, self.radius, from, to) {
-            checked::settle(sweeps::sweep(self.center, self.axis, from, to))
+            checked::settle(sweep::sweep(self.center, self.axis, from, to))
         } else {
             Number::Refused(OUT_OF_RANGE)
         }
@@ -88,7 +92,7 @@ impl Arc {
         ensures { λ r. ⌜ vectorDue r ≡ atDue self from t ⌝ }
     {
         if angle_within(self.center, self.axis, self.radius, from, t) {
-            vectors::settle(spokes::at(self.center, self.axis, self.radius, from, t))
+            vectors::settle(points::at(self.center, self.axis, self.radius, from, t))
         } else {
             Vector::Refused(OUT_OF_RANGE)
         }

@@ -3,6 +3,10 @@ ghost use mathlib.Core.Path.{_≡_};
 ghost use Rattle.checked.specs.Checked.{isFinite, nine, first, within, settled, numberDue};
 ghost use Rattle.checked.specs.Patterns as Patterns;
 
+pub mod face_tests;
+pub mod handed;
+pub mod loops;
+
 // ---- by the drawing
 // A number handed in is not finite, or above 1,048,576 in magnitude.
 pub const OUT_OF_RANGE: u8 = 1;

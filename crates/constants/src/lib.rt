@@ -2,7 +2,7 @@
 // them takes them from their own crates.
 ghost use mathlib.Core.Path.{_≡_};
 ghost use Rattle.vectors.specs.Vectors.{origin};
-ghost use Rattle.counts.specs.Counts as Counts;
+ghost use Rattle.chord_counts.specs.Counts as Counts;
 ghost use Rattle.constants.specs.Constants as Constants;
 use checked::ANGLE_TOO_LARGE;
 use checked::ARC_AND_TRACE;
@@ -18,6 +18,7 @@ use checked::PI;
 use checked::PIECE_ON_CONE;
 use checked::ROW_TOO_SHORT;
 use checked::TAU;
+use chord_counts::counts;
 use vectors::Vec3;
 
 // The refusals in the order of their numbers.

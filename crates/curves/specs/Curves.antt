@@ -8,7 +8,7 @@ use Rattle.arcs.specs.declared.Arc.{Arc}
 use Rattle.arcs.specs.Arcs as arcs
 use Rattle.arcs.specs.Entries.{points}
 use Rattle.pieces.specs.Pieces.{back}
-use Rattle.curve_parts.specs.Parts.{movedArcC, movedPieceC, pieceC}
+use Rattle.curves.specs.Parts.{movedArcC, movedPieceC, pieceC}
 use Rattle.curves.specs.declared.Curve.{Curve}
 use Rattle.curves.specs.declared.Curve.the-variants as curve
 

@@ -3,7 +3,7 @@ use Prim.Native.Nat.{ℕ}
 use mathlib.Core.Bool.{Bool, true, _&&_}
 use mathlib.Core.List.{List}
 use Rattle.checked.specs.Checked.{Checked, within, Due, due, refused, answered}
-use Rattle.handed.specs.Handed.{passing}
+use Rattle.checked.specs.Handed.{passing}
 use Rattle.traces.specs.Traces.{Optional, some, none}
 use Rattle.vectors.specs.declared.Vec3.{Vec3}
 use Rattle.vectors.specs.Vectors.{within3}
@@ -13,7 +13,7 @@ use Rattle.boxes.specs.declared.Bounds.{Bounds}
 use Rattle.boxes.specs.Boxes.{boxCall, passed}
 use Rattle.arcs.specs.declared.Arc.{Arc}
 use Rattle.pieces.specs.Entries as pieces
-use Rattle.curve_parts.specs.Parts.{handedArc}
+use Rattle.curves.specs.Parts.{handedArc}
 use Rattle.curves.specs.declared.Curve.{Curve}
 use Rattle.curves.specs.declared.Curve.the-variants as curve
 use Rattle.curves.specs.declared.CurveAnswer.{CurveAnswer}

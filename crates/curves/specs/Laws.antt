@@ -6,18 +6,18 @@ use mathlib.Core.List.{List}
 use lib.Dec.{T}
 use Rattle.checked.specs.Refusals.{BAD-BOX-OR-SUMS}
 use Rattle.checked.specs.Checked.{Checked, Due, due, refused, settled, unless}
-use Rattle.handed.specs.Handed.{passing}
-use Rattle.handed.specs.Laws.{passing-none, passing-some}
+use Rattle.checked.specs.Handed.{passing}
+use Rattle.checked.specs.HandedLaws.{passing-none, passing-some}
 use Rattle.vectors.specs.declared.Vec3.{Vec3}
 use Rattle.vectors.specs.Vectors.{within3}
 use Rattle.boxes.specs.declared.Bounds.{Bounds}
 use Rattle.boxes.specs.Boxes.{free, widenedBy, passed, tried, boxCall, Sound}
 use Rattle.boxes.specs.Laws.{call-is}
-use Rattle.extremes.specs.Sound as arcs-sound
+use Rattle.arcs.specs.Sound as arcs-sound
 use Rattle.arcs.specs.declared.Arc.{Arc}
 use Rattle.arcs.specs.Entries.{points}
-use Rattle.curve_parts.specs.Parts.{pieceC}
-use Rattle.curve_parts.specs.Laws.{piece-sound}
+use Rattle.curves.specs.Parts.{pieceC}
+use Rattle.curves.specs.PartsLaws.{piece-sound}
 use Rattle.curves.specs.declared.Curve.{Curve}
 use Rattle.curves.specs.declared.Curve.the-variants as curve
 use Rattle.curves.specs.declared.RolledAt.{RolledAt}

@@ -4,8 +4,8 @@ ghost use Rattle.curves.specs.Curves.{reversedC, movedC};
 use crate::CheckedCurve;
 use crate::Curve;
 use crate::RolledAt;
-use curve_parts::moved_arc;
-use curve_parts::moved_piece;
+use crate::parts::moved_arc;
+use crate::parts::moved_piece;
 use motions::Rigid;
 
 pub fn reversed(c: Curve) -> CheckedCurve

@@ -3,22 +3,25 @@ ghost use mathlib.Core.Path.{_≡_};
 ghost use Rattle.checked.specs.Checked.{settled};
 ghost use Rattle.boxes.specs.Boxes.{widenedDue, outcome, Lent};
 ghost use Rattle.curves.specs.Entries.{curveDue, curveArcDue, tests, reversedDue, movedDue, arcDue, extendDue};
+use crate::parts::tried_arc;
+use crate::parts::with_piece;
 use arcs::Arc;
+use arcs::extremes;
 use boxes::Bounds;
 use boxes::CheckedBounds;
 use boxes::Outcome;
 use boxes::Widened;
 use checked::BAD_BOX_OR_SUMS;
 use checked::is_within;
-use curve_parts::tried_arc;
-use curve_parts::with_piece;
 use motions::Rigid;
 use motions::is_within_rigid;
 use pieces::Rolled;
 use vectors::Vec3;
 use vectors::is_within3;
 
+pub mod drawn;
 pub mod formula;
+pub mod parts;
 
 // A piece of a development at `radius` from its axis.
 pub struct RolledAt {

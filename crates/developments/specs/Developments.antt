@@ -2,14 +2,14 @@
 use mathlib.Core.Bool.{Bool, _&&_}
 use lib.Ieee.{Float}
 use Rattle.checked.specs.Checked.{Checked, first, _>>=_, given, within, Due, due, refused, answered}
-use Rattle.handed.specs.Handed.{handed, passing}
+use Rattle.checked.specs.Handed.{handed, passing}
 use Rattle.motions.specs.declared.Rigid.{Rigid}
 use Rattle.motions.specs.Motions.{withinRigid, applyC, applyVectorC}
 use Rattle.vectors.specs.declared.Vec2.{Vec2}
 use Rattle.vectors.specs.declared.Vec3.{Vec3}
 use Rattle.vectors.specs.Vectors.{within2, within3}
-use Rattle.rolls.specs.declared.Unrolled.{Unrolled}
-use Rattle.rolls.specs.Rolls.{radialC, pointC, alongC, unrollC}
+use Rattle.developments.specs.declared.formulas.Unrolled.{Unrolled}
+use Rattle.developments.specs.Rolls.{radialC, pointC, alongC, unrollC}
 use Rattle.developments.specs.declared.Development.{Development}
 use Rattle.developments.specs.declared.UnrolledPoint.{UnrolledPoint}
 use Rattle.developments.specs.declared.UnrolledPoint.the-variants as unrolled-point

@@ -1,23 +1,23 @@
 // Directions, profile arcs and arcs.
 ghost use mathlib.Core.Path.{_≡_};
 ghost use Rattle.directions.specs.Directions as Directions;
-ghost use Rattle.profiles.specs.Profiles as Profiles;
-ghost use Rattle.chords.specs.Chords as Chords;
+ghost use Rattle.profile_arcs.specs.Profiles as Profiles;
+ghost use Rattle.chord_counts.specs.Chords as Chords;
 ghost use Rattle.arcs.specs.Entries as Arcs;
 ghost use lib.ListN.{length};
 ghost use Rattle.arcs.specs.Entries.{innerPointsDue};
 ghost use Rattle.rows.specs.Rows as Rows;
-ghost use Rattle.records.specs.Records.{vec2, vec3, alone, ofVec3, numberOf, after};
-ghost use Rattle.arc_records.specs.Records.{arc, profileArc, bounds, ofArc, ofBounds, afterCount};
-use arc_records::arc_of;
-use arc_records::bounds_of;
-use arc_records::store_arc;
-use arc_records::store_bounds;
-use profiles::ProfileArc;
-use records::store_number;
-use records::store_vector;
-use records::vec2_of;
-use records::vec3_of;
+ghost use Rattle.c_arrays.specs.Records.{vec2, vec3, alone, ofVec3, numberOf, after};
+ghost use Rattle.c_arrays.specs.ArcRecords.{arc, profileArc, bounds, ofArc, ofBounds, afterCount};
+use c_arrays::arc_records::arc_of;
+use c_arrays::arc_records::bounds_of;
+use c_arrays::arc_records::store_arc;
+use c_arrays::arc_records::store_bounds;
+use c_arrays::store_number;
+use c_arrays::store_vector;
+use c_arrays::vec2_of;
+use c_arrays::vec3_of;
+use profile_arcs::ProfileArc;
 
 // The vector of length 1 in the direction of v.
 #[no_mangle]
@@ -111,7 +111,7 @@ pub extern "C" fn jr_per_turn(radius: f64, chord: f64, out: &mut [f64; 1]) -> u3
     ensures number { λ r. ⌜ r ≡ numberOf (Chords.perTurnDue radius chord) ⌝ }
     ensures out { λ _. ⌜ now (out .exit) ≡ after alone (now (out .entry)) (Chords.perTurnDue radius chord) ⌝ }
 {
-    store_number(chords::per_turn(radius, chord), out)
+    store_number(chord_counts::per_turn(radius, chord), out)
 }
 
 // Writes the points of the arc a strictly between `from` and `to`, for as many chords a turn as

@@ -1,16 +1,16 @@
 // Developments.
 ghost use mathlib.Core.Path.{_≡_};
 ghost use Rattle.developments.specs.Developments as Developments;
-ghost use Rattle.records.specs.Records.{vec2, vec3, ofVec3, numberOf, after};
-ghost use Rattle.arc_records.specs.Records.{rigid};
-ghost use Rattle.development_records.specs.Records.{development, ofDevelopment, ofUnrolled};
-use arc_records::rigid_of;
-use development_records::development_of;
-use development_records::store_development;
-use development_records::store_unrolled;
-use records::store_vector;
-use records::vec2_of;
-use records::vec3_of;
+ghost use Rattle.c_arrays.specs.Records.{vec2, vec3, ofVec3, numberOf, after};
+ghost use Rattle.c_arrays.specs.ArcRecords.{rigid};
+ghost use Rattle.c_arrays.specs.DevelopmentRecords.{development, ofDevelopment, ofUnrolled};
+use c_arrays::arc_records::rigid_of;
+use c_arrays::development_records::development_of;
+use c_arrays::development_records::store_development;
+use c_arrays::development_records::store_unrolled;
+use c_arrays::store_vector;
+use c_arrays::vec2_of;
+use c_arrays::vec3_of;
 
 // The unit vector away from the axis of the development at u.
 #[no_mangle]

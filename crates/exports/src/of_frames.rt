@@ -1,15 +1,15 @@
 // Frames of cones.
 ghost use mathlib.Core.Path.{_≡_};
 ghost use mathlib.Core.Bool.{true};
-ghost use Rattle.frames.specs.Entries as Frames;
-ghost use Rattle.records.specs.Records.{vec3, alone, ofVec3, numberOf, after};
-ghost use Rattle.face_records.specs.Records.{cone, frame, ofFrame};
-use face_records::cone_of;
-use face_records::frame_of;
-use face_records::store_frame;
-use records::store_number;
-use records::store_vector;
-use records::vec3_of;
+ghost use Rattle.cones.specs.Entries as Frames;
+ghost use Rattle.c_arrays.specs.Records.{vec3, alone, ofVec3, numberOf, after};
+ghost use Rattle.c_arrays.specs.FaceRecords.{cone, frame, ofFrame};
+use c_arrays::face_records::cone_of;
+use c_arrays::face_records::frame_of;
+use c_arrays::face_records::store_frame;
+use c_arrays::store_number;
+use c_arrays::store_vector;
+use c_arrays::vec3_of;
 
 // The frame of the cone c, the same whichever side the body is on.
 #[no_mangle]

@@ -1,13 +1,13 @@
 // Motions.
 ghost use mathlib.Core.Path.{_≡_};
 ghost use Rattle.motions.specs.Motions as Motions;
-ghost use Rattle.records.specs.Records.{vec3, ofVec3, numberOf, after};
-ghost use Rattle.arc_records.specs.Records.{rigid, ofRigid};
-use arc_records::rigid_of;
-use arc_records::store_motion;
+ghost use Rattle.c_arrays.specs.Records.{vec3, ofVec3, numberOf, after};
+ghost use Rattle.c_arrays.specs.ArcRecords.{rigid, ofRigid};
+use c_arrays::arc_records::rigid_of;
+use c_arrays::arc_records::store_motion;
+use c_arrays::store_vector;
+use c_arrays::vec3_of;
 use motions::Rigid;
-use records::store_vector;
-use records::vec3_of;
 
 // The rotation by the angle about an axis of any length through the origin.
 #[no_mangle]

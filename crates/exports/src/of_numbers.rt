@@ -4,12 +4,15 @@ ghost use lib.Ieee.{binary64};
 ghost use Rattle.checked.specs.Checked.{answered};
 ghost use Rattle.rounding.specs.Root as Root;
 ghost use Rattle.rounding.specs.Whole as Whole;
-ghost use Rattle.arctangent.specs.Arctangent as Arctangent;
-ghost use Rattle.circle.specs.Circle as Circle;
-ghost use Rattle.roots.specs.Roots as Roots;
-ghost use Rattle.records.specs.Records.{alone, ofSines, numberOf, after};
-use records::store_number;
-use records::store_sines;
+ghost use Rattle.libm.specs.Arctangent as Arctangent;
+ghost use Rattle.libm.specs.Circle as Circle;
+ghost use Rattle.libm.specs.Roots as Roots;
+ghost use Rattle.c_arrays.specs.Records.{alone, ofSines, numberOf, after};
+use c_arrays::store_number;
+use c_arrays::store_sines;
+use libm::atan2;
+use libm::roots;
+use libm::sincos;
 
 // The square root of x, rounded once; a NaN where x is below 0.
 #[no_mangle]
@@ -40,7 +43,7 @@ pub extern "C" fn jr_round(x: f64) -> f64
 pub extern "C" fn jr_atan2(y: f64, x: f64) -> f64
     ensures { λ r. ⌜ r ≡ Arctangent.atan2 y x ⌝ }
 {
-    arctangent::atan2(y, x)
+    atan2::atan2(y, x)
 }
 
 // The angle whose cosine is x, 0 to pi, by libm's acos; a NaN where x is not in -1 to 1.
@@ -65,7 +68,7 @@ pub extern "C" fn jr_sin(x: f64, out: &mut [f64; 1]) -> u32
     ensures number { λ r. ⌜ r ≡ numberOf (answered (Circle.sinC x)) ⌝ }
     ensures out { λ _. ⌜ now (out .exit) ≡ after alone (now (out .entry)) (answered (Circle.sinC x)) ⌝ }
 {
-    store_number(checked::settle(circle::sin(x)), out)
+    store_number(checked::settle(sincos::sin(x)), out)
 }
 
 // The sine and the cosine of the angle x.
@@ -74,5 +77,5 @@ pub extern "C" fn jr_sincos(x: f64, out: &mut [f64; 2]) -> u32
     ensures number { λ r. ⌜ r ≡ numberOf (answered (Circle.sincosC x)) ⌝ }
     ensures out { λ _. ⌜ now (out .exit) ≡ after ofSines (now (out .entry)) (answered (Circle.sincosC x)) ⌝ }
 {
-    store_sines(circle::sincos(x), out)
+    store_sines(sincos::sincos(x), out)
 }

@@ -3,20 +3,22 @@ ghost use mathlib.Core.Path.{_≡_};
 ghost use mathlib.Core.Bool.{true};
 ghost use Rattle.segments.specs.Entries as Segments;
 ghost use Rattle.revolutions.specs.Revolutions as Revolutions;
-ghost use Rattle.closings.specs.Closings.{closeDue};
-ghost use Rattle.cut_walls.specs.Entries.{wallDue};
-ghost use Rattle.records.specs.Records.{vec3, numberOf, after, tagDue};
-ghost use Rattle.arc_records.specs.Records.{arc};
-ghost use Rattle.face_records.specs.Records.{cone, sums, ofSums};
-ghost use Rattle.piece_records.specs.Records.{isPiece, piece};
-use arc_records::arc_of;
-use face_records::cone_of;
-use face_records::store_sums;
-use face_records::sums_of;
-use piece_records::is_piece;
-use piece_records::piece_of;
-use records::UNKNOWN_TAG;
-use records::vec3_of;
+ghost use Rattle.revolutions.specs.Closings.{closeDue};
+ghost use Rattle.walls.specs.Entries.{wallDue};
+ghost use Rattle.c_arrays.specs.Records.{vec3, numberOf, after, tagDue};
+ghost use Rattle.c_arrays.specs.ArcRecords.{arc};
+ghost use Rattle.c_arrays.specs.FaceRecords.{cone, sums, ofSums};
+ghost use Rattle.c_shapes.specs.PieceRecords.{isPiece, piece};
+use c_arrays::UNKNOWN_TAG;
+use c_arrays::arc_records::arc_of;
+use c_arrays::face_records::cone_of;
+use c_arrays::face_records::store_sums;
+use c_arrays::face_records::sums_of;
+use c_arrays::vec3_of;
+use c_shapes::piece_records::is_piece;
+use c_shapes::piece_records::piece_of;
+use revolutions::closings;
+use walls::cut_walls;
 
 // Corrects the sums `acc` of a plane face, o being their point and n the face's unit normal, for an
 // edge that is no chord from u to v but the arc a about k.

@@ -1,20 +1,20 @@
 // The surfaces of faces: planes, cylinders, cones, and walls over a piece.
 ghost use mathlib.Core.Path.{_≡_};
 ghost use Rattle.surfaces.specs.Entries as Surfaces;
-ghost use Rattle.records.specs.Records.{vec3, ofVec3, numberOf, after, tagDue};
-ghost use Rattle.arc_records.specs.Records.{rigid};
-ghost use Rattle.trace_records.specs.Records.{someDue};
-ghost use Rattle.piece_stores.specs.Stores.{stored};
-ghost use Rattle.surface_records.specs.Records.{isSurface, surface, ofPlane, ofCone, withSurface};
-use arc_records::rigid_of;
-use records::UNKNOWN_TAG;
-use records::store_vector;
-use records::vec3_of;
-use surface_records::is_surface;
-use surface_records::store_cone;
-use surface_records::store_plane;
-use surface_records::store_surface;
-use surface_records::surface_of;
+ghost use Rattle.c_arrays.specs.Records.{vec3, ofVec3, numberOf, after, tagDue};
+ghost use Rattle.c_arrays.specs.ArcRecords.{rigid};
+ghost use Rattle.c_arrays.specs.TraceRecords.{someDue};
+ghost use Rattle.c_shapes.specs.Stores.{stored};
+ghost use Rattle.c_shapes.specs.SurfaceRecords.{isSurface, surface, ofPlane, ofCone, withSurface};
+use c_arrays::UNKNOWN_TAG;
+use c_arrays::arc_records::rigid_of;
+use c_arrays::store_vector;
+use c_arrays::vec3_of;
+use c_shapes::surface_records::is_surface;
+use c_shapes::surface_records::store_cone;
+use c_shapes::surface_records::store_plane;
+use c_shapes::surface_records::store_surface;
+use c_shapes::surface_records::surface_of;
 
 // The plane that the surface s is, its origin and its normal; 255 where it is none.
 #[no_mangle]

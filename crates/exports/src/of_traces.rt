@@ -3,18 +3,18 @@ ghost use mathlib.Core.Path.{_≡_};
 ghost use Rattle.waves.specs.Entries as Waves;
 ghost use Rattle.meets.specs.Entries as Meets;
 ghost use Rattle.traces.specs.Traces as Traces;
-ghost use Rattle.records.specs.Records.{alone, numberOf, after, tagDue};
-ghost use Rattle.trace_records.specs.Records.{wave, isTurn, meet, isTrace, traceOf, ofJet, ofSpan, ofPoints, someDue};
-use records::UNKNOWN_TAG;
-use trace_records::is_trace;
-use trace_records::is_turn;
-use trace_records::meet_of;
-use trace_records::store_height;
-use trace_records::store_jet;
-use trace_records::store_points;
-use trace_records::store_span;
-use trace_records::trace_of;
-use trace_records::wave_of;
+ghost use Rattle.c_arrays.specs.Records.{alone, numberOf, after, tagDue};
+ghost use Rattle.c_arrays.specs.TraceRecords.{wave, isTurn, meet, isTrace, traceOf, ofJet, ofSpan, ofPoints, someDue};
+use c_arrays::UNKNOWN_TAG;
+use c_arrays::trace_records::is_trace;
+use c_arrays::trace_records::is_turn;
+use c_arrays::trace_records::meet_of;
+use c_arrays::trace_records::store_height;
+use c_arrays::trace_records::store_jet;
+use c_arrays::trace_records::store_points;
+use c_arrays::trace_records::store_span;
+use c_arrays::trace_records::trace_of;
+use c_arrays::trace_records::wave_of;
 
 // The v of the wave w at u and its first and second derivatives, the neutral radius being n.
 #[no_mangle]

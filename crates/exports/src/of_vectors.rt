@@ -1,11 +1,11 @@
 // Vectors.
 ghost use mathlib.Core.Path.{_≡_};
 ghost use Rattle.vectors.specs.Entries as Vectors;
-ghost use Rattle.records.specs.Records.{vec3, alone, ofVec3, numberOf, after};
-use records::store_index;
-use records::store_number;
-use records::store_vector;
-use records::vec3_of;
+ghost use Rattle.c_arrays.specs.Records.{vec3, alone, ofVec3, numberOf, after};
+use c_arrays::store_index;
+use c_arrays::store_number;
+use c_arrays::store_vector;
+use c_arrays::vec3_of;
 
 // The scalar product of a and b.
 #[no_mangle]

@@ -3,15 +3,17 @@
 // parts of the number due, or of the body's size where that is 0.
 use arcs::Arc;
 use checked::PI;
+use cones::Cone;
 use developments::Development;
-use frames::Cone;
 use integrals::Added;
 use integrals::Integrals;
-use profiles::ProfileArc;
-use runs::PieceArc;
-use runs::PieceTrace;
+use piece_curves::PieceArc;
+use piece_curves::PieceTrace;
+use profile_arcs::ProfileArc;
+use revolutions::closings;
 use vectors::Vec2;
 use vectors::Vec3;
+use walls::cut_walls;
 
 const BOUND: f64 = 1e-12;
 
@@ -31,7 +33,7 @@ fn show(x: f64) {
 }
 
 fn is_near(due: f64, found: f64, size: f64) -> bool {
-    words::fabs(due - found) <= BOUND * size
+    float_bits::fabs(due - found) <= BOUND * size
 }
 
 // A number due, in a body of some size.

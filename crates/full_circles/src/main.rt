@@ -6,6 +6,7 @@
 use arcs::Arc;
 use checked::Number;
 use checked::TAU;
+use libm::atan2;
 use std::num::wrapping_add_u64;
 use vectors::Vec3;
 
@@ -51,7 +52,7 @@ fn is_as_proved(from: Vec3, to: Vec3) -> bool {
     let sweep = sweep_of(from, to);
     let y = from.x * to.y - from.y * to.x;
     let x = from.x * to.x + from.y * to.y;
-    let angle = arctangent::atan2(y, x);
+    let angle = atan2::atan2(y, x);
     let is_lost = (-LOST <= angle) & (angle <= 0.0);
     (0.0 < sweep) & (sweep <= TAU) & ((sweep == TAU) == is_lost)
 }

@@ -3,6 +3,9 @@
 use answer_lines::operation;
 use answer_lines::pattern;
 use bytes::scan::find;
+use libm::atan2;
+use libm::roots;
+use libm::sincos;
 use std::num::wrapping_add_u32;
 use std::num::wrapping_add_u64;
 
@@ -31,8 +34,8 @@ fn is_near(line: &[u8], k: usize, got: f64) -> bool {
 
 // The sine by both functions that give it, and the cosine.
 fn are_sines_near(line: &[u8], x: f64) -> bool {
-    let a = circle::sin(x);
-    let b = circle::sincos(x);
+    let a = sincos::sin(x);
+    let b = sincos::sincos(x);
     (a.refusal == 0)
         & (b.refusal == 0)
         & is_near(line, 1, a.value)
@@ -45,7 +48,7 @@ fn is_known(line: &[u8]) -> bool {
     let y = checked::of_bits(pattern(line, 1));
     match operation(line) {
         5 => are_sines_near(line, x),
-        6 => is_near(line, 2, arctangent::atan2(x, y)),
+        6 => is_near(line, 2, atan2::atan2(x, y)),
         7 => is_near(line, 1, roots::acos(x)),
         8 => is_near(line, 2, roots::hypot(x, y)),
         _ => false,

@@ -2,9 +2,9 @@
 use mathlib.Core.Bool.{Bool, true, _&&_}
 use lib.Ieee.{Float}
 use Rattle.checked.specs.Checked.{within, Due, due, refused, answered}
-use Rattle.handed.specs.Handed.{handed, passing}
+use Rattle.checked.specs.Handed.{handed, passing}
 use Rattle.vectors.specs.Vectors.{within3}
-use Rattle.reaches.specs.declared.Jet.{Jet}
+use Rattle.meets.specs.declared.generatrix.Jet.{Jet}
 use Rattle.meets.specs.declared.Turn.{Turn}
 use Rattle.meets.specs.declared.Turn.the-variants as turn
 use Rattle.meets.specs.declared.Meet.{Meet}

@@ -1,2 +1,3 @@
-pub mod Motions
+pub mod Axes
 pub mod Laws
+pub mod Motions

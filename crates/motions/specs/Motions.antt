@@ -5,7 +5,7 @@ use lib.Ieee.{Float}
 use Rattle.checked.specs.Refusals.{OUT-OF-RANGE}
 use Rattle.checked.specs.Checked.{Checked, first, _>>=_, given, num, _⊕_, _⊖_, _⊗_, _⊘_, within, Due, due, refused, answered, unless}
 use Rattle.checked.specs.Numbers.{one}
-use Rattle.circle.specs.Circle.{sincosC}
+use Rattle.libm.specs.Circle.{sincosC}
 use Rattle.directions.specs.Directions.{lengthC}
 use Rattle.vectors.specs.declared.Vec3.{Vec3}
 use Rattle.vectors.specs.Vectors.{origin, space, within3, nines, vec, _⊞_, _⊠_, _⊡_}

@@ -12,6 +12,7 @@ use vectors::Vector;
 use vectors::is_within3;
 use vectors::tried;
 
+pub mod axes;
 pub mod formula;
 
 // The rows of a rotation, by the coordinate that each one gives.

@@ -9,8 +9,8 @@ use Rattle.vectors.specs.declared.Vec3.{Vec3}
 use Rattle.vectors.specs.Vectors.{nines, crossC}
 use Rattle.vectors.specs.Laws.{rules as vectors-rules}
 use Rattle.directions.specs.Directions.{unitC}
-use Rattle.rolls.specs.Rolls.{radialC, alongC}
-use Rattle.rolls.specs.Laws.{along-refusal}
+use Rattle.developments.specs.Rolls.{radialC, alongC}
+use Rattle.developments.specs.Laws.{along-refusal}
 use Rattle.piece_normals.specs.Normals.{normalC}
 
 again : (a b : ℕ) → first a (first a b) ≡ first a b

@@ -1,2 +1,4 @@
-pub mod Normals
+pub mod Directions
+pub mod HoleDirectionsLaws
 pub mod Laws
+pub mod Normals

@@ -6,24 +6,24 @@ use Rattle.directions.specs.Directions.{unitC}
 use Rattle.vectors.specs.declared.Vec2.{Vec2}
 use Rattle.vectors.specs.declared.Vec3.{Vec3}
 use Rattle.vectors.specs.Vectors.{plane, vec, _⨯_}
-use Rattle.profiles.specs.declared.ProfileArc.{ProfileArc}
-use Rattle.pipes.specs.declared.Pipe.{Pipe}
+use Rattle.profile_arcs.specs.declared.ProfileArc.{ProfileArc}
+use Rattle.meets.specs.declared.quadratic.Pipe.{Pipe}
 use Rattle.waves.specs.declared.Wave.{Wave}
-use Rattle.wave_values.specs.Values as waves
+use Rattle.waves.specs.Values as waves
 use Rattle.meets.specs.declared.Turn.{Turn}
 use Rattle.meets.specs.declared.Turn.the-variants as turn
 use Rattle.meets.specs.declared.Meet.{Meet}
 use Rattle.meets.specs.Meets.{pipeC}
 use Rattle.traces.specs.declared.Trace.{Trace}
 use Rattle.traces.specs.declared.Trace.the-variants as trace
-use Rattle.courses.specs.declared.Course.{Course}
-use Rattle.courses.specs.Courses.{slopeUC, slopeVC}
-use Rattle.rolls.specs.Rolls.{radialC, alongC}
-use Rattle.runs.specs.declared.PieceArc.{PieceArc}
-use Rattle.runs.specs.declared.PieceArc.the-variants as piece-arc
-use Rattle.runs.specs.declared.PieceTrace.{PieceTrace}
-use Rattle.runs.specs.declared.PieceTrace.the-variants as piece-trace
-use Rattle.hole_directions.specs.Directions.{gradientC, facing, sideC}
+use Rattle.piece_curves.specs.declared.meet_curves.Course.{Course}
+use Rattle.piece_curves.specs.Courses.{slopeUC, slopeVC}
+use Rattle.developments.specs.Rolls.{radialC, alongC}
+use Rattle.piece_curves.specs.declared.PieceArc.{PieceArc}
+use Rattle.piece_curves.specs.declared.PieceArc.the-variants as piece-arc
+use Rattle.piece_curves.specs.declared.PieceTrace.{PieceTrace}
+use Rattle.piece_curves.specs.declared.PieceTrace.the-variants as piece-trace
+use Rattle.piece_normals.specs.Directions.{gradientC, facing, sideC}
 
 -- ---- the direction of a piece at p
 unfoldable pub straightC : Vec2 → Vec2 → Checked Vec2

@@ -2,22 +2,22 @@
 // any size.
 ghost use mathlib.Core.Path.{_≡_};
 ghost use Rattle.piece_normals.specs.Normals.{straightC, arcC, waveC, ownC, holeC, meetC, tracedC, untracedC, directionC, normalC};
+use crate::hole_directions::facing;
+use crate::hole_directions::gradient;
+use crate::hole_directions::side;
 use checked::earlier;
 use checked::note;
-use courses::CheckedVec2;
-use courses::Course;
-use courses::motion;
+use developments::formulas::radial;
 use directions::formula::unit;
-use hole_directions::facing;
-use hole_directions::gradient;
-use hole_directions::side;
 use meets::Meet;
 use meets::Turn;
 use meets::formula::pipe;
-use profiles::ProfileArc;
-use rolls::radial;
-use runs::PieceArc;
-use runs::PieceTrace;
+use piece_curves::PieceArc;
+use piece_curves::PieceTrace;
+use piece_curves::meet_curves::CheckedVec2;
+use piece_curves::meet_curves::Course;
+use piece_curves::meet_curves::motion;
+use profile_arcs::ProfileArc;
 use traces::Trace;
 use vectors::CheckedVec3;
 use vectors::Vec2;
@@ -27,6 +27,9 @@ use vectors::formula::noted;
 use vectors::formula::plus;
 use vectors::formula::times;
 use waves::Wave;
+use waves::values;
+
+pub mod hole_directions;
 
 // From one point to another.
 fn straight(from: Vec2, to: Vec2) -> CheckedVec2
@@ -68,7 +71,7 @@ fn wave_direction(w: Wave, from: Vec2, to: Vec2, n: f64, p: Vec2) -> CheckedVec2
     ensures value { λ r. ⌜ r .value ≡ waveC w from to n p .value ⌝ }
 {
     let du = to.x - from.x;
-    let s = wave_values::slope(w.b, w.c, p.x, n);
+    let s = values::slope(w.b, w.c, p.x, n);
     let y = s.value * du;
     CheckedVec2 {
         refusal: note(earlier(note(0, du), s.refusal), y),

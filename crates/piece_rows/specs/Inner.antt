@@ -5,8 +5,8 @@ use Rattle.checked.specs.Checked.{Checked, first, _>>=_, given, num, _⊘_, Due
 use Rattle.checked.specs.Numbers.{float}
 use Rattle.vectors.specs.declared.Vec3.{Vec3}
 use Rattle.rows.specs.Rows.{upTo, fits}
-use Rattle.piece_points.specs.declared.Rolling.{Rolling}
-use Rattle.piece_points.specs.Spots.{rolledC}
+use Rattle.piece_curves.specs.declared.space_points.Rolling.{Rolling}
+use Rattle.piece_curves.specs.Spots.{rolledC}
 
 -- the point k of a piece that is cut into n chords
 unfoldable pub innerC : Rolling → ℕ → ℕ → Checked Vec3

@@ -9,7 +9,7 @@ use lib.Ieee.{Float}
 use Rattle.checked.specs.Checked.{Checked, first, settled}
 use Rattle.checked.specs.Laws.{zero-first}
 use Rattle.vectors.specs.declared.Vec3.{Vec3}
-use Rattle.piece_points.specs.declared.Rolling.{Rolling}
+use Rattle.piece_curves.specs.declared.space_points.Rolling.{Rolling}
 use Rattle.rows.specs.Rows.{upTo, flat, placed, fits, allRefusal, allDue}
 use Rattle.rows.specs.Laws.{point-put}
 use Rattle.piece_rows.specs.Inner.{innerC, innersDue}

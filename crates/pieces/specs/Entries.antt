@@ -4,20 +4,20 @@ use mathlib.Core.Bool.{Bool, true, not, _&&_}
 use lib.Ieee.{Float, lt}
 use Rattle.checked.specs.Checked.{Checked, first, _>>=_, within, Due, due, refused, answered}
 use Rattle.checked.specs.Numbers.{zero}
-use Rattle.handed.specs.Handed.{passing}
+use Rattle.checked.specs.Handed.{passing}
 use Rattle.vectors.specs.declared.Vec2.{Vec2}
 use Rattle.vectors.specs.declared.Vec3.{Vec3}
 use Rattle.vectors.specs.Vectors.{within2}
 use Rattle.developments.specs.Developments.{developmentWithin}
-use Rattle.courses.specs.declared.Place.{Place}
-use Rattle.windows.specs.declared.FlatBox.{FlatBox}
-use Rattle.measures.specs.declared.Measure.{Measure}
-use Rattle.measures.specs.Measures.{measureC}
-use Rattle.run_points.specs.Points.{atC}
-use Rattle.run_bends.specs.Bends.{secondC}
-use Rattle.run_boxes.specs.Boxes.{boxC}
-use Rattle.run_counts.specs.Counts.{quadratureC, chordsC, polylineC}
-use Rattle.piece_parts.specs.Tests.{arcWithin, followedWithin, both, handedPiece}
+use Rattle.piece_curves.specs.declared.meet_curves.Place.{Place}
+use Rattle.piece_boxes.specs.declared.brackets.FlatBox.{FlatBox}
+use Rattle.piece_lengths.specs.declared.measures.Measure.{Measure}
+use Rattle.piece_lengths.specs.Measures.{measureC}
+use Rattle.piece_curves.specs.Points.{atC}
+use Rattle.piece_lengths.specs.Bends.{secondC}
+use Rattle.piece_boxes.specs.CurveBoxes.{boxC}
+use Rattle.piece_lengths.specs.Counts.{quadratureC, chordsC, polylineC}
+use Rattle.pieces.specs.Tests.{arcWithin, followedWithin, both, handedPiece}
 use Rattle.pieces.specs.declared.Rolled.{Rolled}
 use Rattle.pieces.specs.declared.RolledPoint.{RolledPoint}
 use Rattle.pieces.specs.declared.RolledPoint.the-variants as rolled-point

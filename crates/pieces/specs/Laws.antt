@@ -3,11 +3,11 @@ use mathlib.Core.Path.{_≡_, refl}
 use mathlib.Core.Bool.{Bool, true, false, _&&_}
 use lib.Ieee.{Float}
 use Rattle.vectors.specs.declared.Vec2.{Vec2}
-use Rattle.pipes.specs.declared.Pipe.{Pipe}
+use Rattle.meets.specs.declared.quadratic.Pipe.{Pipe}
 use Rattle.meets.specs.declared.Meet.{Meet}
-use Rattle.courses.specs.declared.Course.{Course}
-use Rattle.runs.specs.declared.Way.{Way}
-use Rattle.runs.specs.declared.Run.{Run}
+use Rattle.piece_curves.specs.declared.meet_curves.Course.{Course}
+use Rattle.piece_curves.specs.declared.Way.{Way}
+use Rattle.piece_curves.specs.declared.Run.{Run}
 
 -- the course along a meet, by its pipe
 abbrev pub courseOf : Vec2 → Vec2 → Float → Meet → Pipe → Course

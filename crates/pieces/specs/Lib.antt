@@ -1,3 +1,5 @@
-pub mod Pieces
-pub mod Laws
 pub mod Entries
+pub mod Laws
+pub mod Pieces
+pub mod Reversals
+pub mod Tests

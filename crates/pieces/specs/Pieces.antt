@@ -3,10 +3,10 @@ use lib.Ieee.{Float}
 use Rattle.checked.specs.Checked.{Checked, first, _>>=_}
 use Rattle.vectors.specs.declared.Vec2.{Vec2}
 use Rattle.vectors.specs.declared.Vec3.{Vec3}
-use Rattle.runs.specs.declared.Run.{Run}
-use Rattle.runs.specs.Runs as runs
+use Rattle.piece_curves.specs.declared.Run.{Run}
+use Rattle.piece_curves.specs.Runs as runs
 use Rattle.piece_normals.specs.Normals as normals
-use Rattle.piece_parts.specs.Reversals.{arcBack, traceBack}
+use Rattle.pieces.specs.Reversals.{arcBack, traceBack}
 use Rattle.pieces.specs.declared.Rolled.{Rolled}
 
 unfoldable pub runC : Rolled → Checked Run

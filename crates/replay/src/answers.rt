@@ -7,7 +7,7 @@ use std::num::wrapping_add_usize;
 
 // The line has this answer, 0 for a result, and so many patterns. None stands there as 99.
 fn is_due(line: &[u8], answer: u32, patterns: usize) -> bool {
-    let number = if answer == records::NONE {
+    let number = if answer == c_arrays::NONE {
         99
     } else {
         answer as u64

@@ -9,6 +9,8 @@ use line_records::number;
 use line_records::piece;
 use line_records::sums;
 use line_records::vec3;
+use revolutions::closings;
+use walls::cut_walls;
 
 fn segment(line: &[u8]) -> Added {
     segments::with_segment(

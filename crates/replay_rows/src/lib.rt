@@ -2,6 +2,7 @@
 // it where the call is refused.
 use answer_lines::pattern;
 use answer_lines::refusal;
+use curves::drawn;
 use line_answers::is_number;
 use line_answers::is_refused;
 use line_answers::is_result;
@@ -59,7 +60,7 @@ fn is_arc_part(line: &[u8], row: &mut [f64]) -> bool {
 fn is_curve_part(line: &[u8], row: &mut [f64]) -> bool {
     let c = curve(line);
     let mut met = 0;
-    let part = curve_rows::inner_points(
+    let part = drawn::inner_points(
         c,
         vec3(line, 30),
         vec3(line, 33),

@@ -1,6 +1,6 @@
 // The operations on surfaces, by their numbers: each calls the entry on a line's inputs and says whether its answer is the line's.
 use answer_lines::pattern;
-use frames::Cone;
+use cones::Cone;
 use line_answers::are_tags;
 use line_answers::are_zeros;
 use line_answers::is_cone;

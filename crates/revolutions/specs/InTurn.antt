@@ -15,21 +15,21 @@ use Rattle.checked.specs.Checked.{Checked, first, isFinite, Due, due, refused, 
 use Rattle.checked.specs.Laws.{first-none}
 use Rattle.vectors.specs.declared.Vec3.{Vec3}
 use Rattle.vectors.specs.Vectors.{isFinite3, within3}
-use Rattle.frames.specs.declared.Cone.{Cone}
-use Rattle.frames.specs.Entries.{coneWithin}
+use Rattle.cones.specs.declared.Cone.{Cone}
+use Rattle.cones.specs.Entries.{coneWithin}
 use Rattle.integrals.specs.declared.Integrals.{Integrals}
 use Rattle.integrals.specs.Sums.{finiteSums, nothing}
 use Rattle.integrals.specs.Laws.{Finite}
-use Rattle.loops.specs.Lists.{foldListC, list-sound, list-once}
-use Rattle.integrands.specs.declared.Revolved.{Revolved}
-use Rattle.integrands.specs.Integrands.{revolvedC}
-use Rattle.integrands.specs.Sound.{path-sound}
-use Rattle.arc_paths.specs.ArcPaths.{courseAt, arcPathC}
-use Rattle.piece_paths.specs.PiecePaths.{driftAt}
-use Rattle.paths.specs.Paths.{piecePathC}
-use Rattle.closings.specs.Closings.{closeC, closeDue}
-use Rattle.handed.specs.Laws.{passing-none}
-use Rattle.face_tests.specs.Laws.{tests-none, accepted as tests-accepted}
+use Rattle.checked.specs.Lists.{foldListC, list-sound, list-once}
+use Rattle.integrals.specs.declared.integrands.Revolved.{Revolved}
+use Rattle.integrals.specs.Integrands.{revolvedC}
+use Rattle.integrals.specs.Sound.{path-sound}
+use Rattle.face_paths.specs.ArcPaths.{courseAt, arcPathC}
+use Rattle.face_paths.specs.PiecePaths.{driftAt}
+use Rattle.face_paths.specs.Paths.{piecePathC}
+use Rattle.revolutions.specs.Closings.{closeC, closeDue}
+use Rattle.checked.specs.HandedLaws.{passing-none}
+use Rattle.checked.specs.FaceTestsLaws.{tests-none, accepted as tests-accepted}
 use Rattle.revolutions.specs.Revolutions.{Path, arc, piece, pathWithin, pathNeutral, pathSingle, liesOn, pathC, sumsC, revolutionC, every, faceWithin, revolutionDue, openDue, addC, addDue, andThen, addedInTurn, inTurn}
 
 -- ---- sums stay finite

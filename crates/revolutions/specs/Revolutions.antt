@@ -10,24 +10,24 @@ use Rattle.vectors.specs.declared.Vec2.{Vec2}
 use Rattle.vectors.specs.declared.Vec3.{Vec3}
 use Rattle.vectors.specs.Vectors.{within2, within3}
 use Rattle.arcs.specs.declared.Arc.{Arc}
-use Rattle.sweeps.specs.Sweeps.{endsWithin}
+use Rattle.arcs.specs.Sweeps.{endsWithin}
 use Rattle.developments.specs.declared.Development.{Development}
 use Rattle.developments.specs.Developments.{developmentWithin}
-use Rattle.runs.specs.declared.PieceArc.{PieceArc}
-use Rattle.runs.specs.declared.PieceTrace.{PieceTrace}
-use Rattle.piece_parts.specs.Tests.{arcWithin, followedWithin, both}
-use Rattle.frames.specs.declared.Cone.{Cone}
-use Rattle.frames.specs.Entries.{coneWithin}
+use Rattle.piece_curves.specs.declared.PieceArc.{PieceArc}
+use Rattle.piece_curves.specs.declared.PieceTrace.{PieceTrace}
+use Rattle.pieces.specs.Tests.{arcWithin, followedWithin, both}
+use Rattle.cones.specs.declared.Cone.{Cone}
+use Rattle.cones.specs.Entries.{coneWithin}
 use Rattle.integrals.specs.declared.Integrals.{Integrals}
 use Rattle.integrals.specs.Sums.{finiteSums, nothing}
-use Rattle.loops.specs.Lists.{foldListC}
-use Rattle.integrands.specs.declared.Revolved.{Revolved}
-use Rattle.integrands.specs.Integrands.{revolvedC}
-use Rattle.arc_paths.specs.ArcPaths.{arcPathC}
-use Rattle.paths.specs.Paths.{piecePathC}
-use Rattle.handed.specs.Handed.{passing}
-use Rattle.face_tests.specs.Tests.{tests}
-use Rattle.closings.specs.Closings.{closeC, closeDue}
+use Rattle.checked.specs.Lists.{foldListC}
+use Rattle.integrals.specs.declared.integrands.Revolved.{Revolved}
+use Rattle.integrals.specs.Integrands.{revolvedC}
+use Rattle.face_paths.specs.ArcPaths.{arcPathC}
+use Rattle.face_paths.specs.Paths.{piecePathC}
+use Rattle.checked.specs.Handed.{passing}
+use Rattle.checked.specs.Tests.{tests}
+use Rattle.revolutions.specs.Closings.{closeC, closeDue}
 
 -- A curve of the face's outline, as its loop runs it: an arc about the axis from one point to
 -- another, or a piece of a development from one place to another, with its arc and its trace.

@@ -16,7 +16,7 @@ use lib.Ieee.{Float, nan, inf, fin, binary64, up, down, units, fits, lt, toBits}
 use lib.Ieee.Fits.{down-pos, up-pos, and-l, and-r}
 use lib.Ieee.Exact.{HasValue, units-val}
 use Rattle.rounding.specs.Root.{sqrt, round-root}
-use Rattle.whole_roots.specs.NearRoot.{NearRoot}
+use Rattle.rounding.specs.NearRoot.{NearRoot}
 use Rattle.rounding.specs.Values.{nought, fits-small, fits-low}
 use Rattle.rounding.proofs.Roots.{near-exists, middle-above, middle-below, squares-le, square-of, near-range, round-root-is}
 use Rattle.rounding.specs.Patterns.{read-top}

@@ -12,8 +12,8 @@ use lib.Pow.{pow-add, pow-pos, pow-mono}
 use lib.Ieee.{Float, Format, prec, low, size, nearest, units}
 use lib.Ieee.Digits.{size-lt, size-le}
 use lib.Ieee.Fits.{two, two-le-pos}
-use Rattle.whole_roots.specs.NearRoot.{NearRoot}
-use Rattle.whole_roots.specs.Squares.{sq-mono, sq-back, sq-next, sq-scaled, sq-twice, sq-pred}
+use Rattle.rounding.specs.NearRoot.{NearRoot}
+use Rattle.rounding.specs.Squares.{sq-mono, sq-back, sq-next, sq-scaled, sq-twice, sq-pred}
 use Rattle.rounding.specs.Root.{root, round-root}
 use Rattle.rounding.specs.Floors.{Floor, root-floor}
 

@@ -17,7 +17,7 @@ use lib.Ieee.{Float, nan, inf, fin, binary64, up, down, units, fits, lt, nanBits
 use lib.Ieee.Fits.{down-pos}
 use lib.Ieee.Exact.{HasValue}
 use Rattle.rounding.specs.Root.{sqrt, round-root}
-use Rattle.whole_roots.specs.NearRoot.{NearRoot}
+use Rattle.rounding.specs.NearRoot.{NearRoot}
 use Rattle.rounding.proofs.Roots.{round-root-is, near-range}
 use Rattle.rounding.specs.Values.{nought}
 use Rattle.rounding.proofs.Wholes.{no-less, Flat}

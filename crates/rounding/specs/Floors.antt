@@ -8,7 +8,7 @@ use lib.Dec.{T, leb, leb→le, nleb→lt}
 use lib.Pow.{pow-pos}
 use lib.Ieee.{size}
 use lib.Ieee.Digits.{size-lt}
-use Rattle.whole_roots.specs.Squares.{sq-back, sq-next, sq-twice}
+use Rattle.rounding.specs.Squares.{sq-back, sq-next, sq-twice}
 use Rattle.rounding.specs.Root.{digits, root}
 
 -- ---- the whole part of a root

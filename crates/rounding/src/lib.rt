@@ -8,8 +8,10 @@ ghost use lib.Dec.{T};
 ghost use lib.Ieee.{binary64, fin, lt, ofInt};
 ghost use Rattle.rounding.specs.Whole as Whole;
 ghost use Rattle.rounding.specs.Root as Root;
-ghost use Rattle.whole_roots.specs.NearRoot.{NearRoot};
-use whole_roots::nearest_root;
+ghost use Rattle.rounding.specs.NearRoot.{NearRoot};
+use crate::whole_roots::nearest_root;
+
+pub mod whole_roots;
 
 // A whole number at most a half away from a. From 2^52 to 2^53 the f64 are the whole numbers, so
 // the sum is rounded to one of them, and the difference is exact.

@@ -1,2 +1,4 @@
-pub mod Rows
+pub mod CirclesLaws
 pub mod Laws
+pub mod Rims
+pub mod Rows

@@ -14,6 +14,8 @@ ghost use lib.ListN.{length, take, drop};
 ghost use Rattle.rows.specs.Rows.{placed};
 use vectors::Vec3;
 
+pub mod circles;
+
 // What a call on a lent row answers: the refusal's number or 0, and how many points are written.
 pub struct Written {
     pub refusal: u8,

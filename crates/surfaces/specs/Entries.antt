@@ -3,14 +3,14 @@ use Prim.Native.Nat.{ℕ}
 use mathlib.Core.Bool.{Bool, true, _&&_}
 use Rattle.checked.specs.Refusals.{OUT-OF-RANGE}
 use Rattle.checked.specs.Checked.{Checked, within, Due, due, refused, answered}
-use Rattle.handed.specs.Handed.{fails, passing}
+use Rattle.checked.specs.Handed.{fails, passing}
 use Rattle.traces.specs.Traces.{Optional, some, none}
 use Rattle.vectors.specs.declared.Vec3.{Vec3}
 use Rattle.vectors.specs.Vectors.{within3}
 use Rattle.motions.specs.declared.Rigid.{Rigid}
 use Rattle.motions.specs.Motions.{withinRigid}
-use Rattle.frames.specs.declared.Cone.{Cone}
-use Rattle.frames.specs.Entries.{coneWithin}
+use Rattle.cones.specs.declared.Cone.{Cone}
+use Rattle.cones.specs.Entries.{coneWithin}
 use Rattle.pieces.specs.Entries as pieces
 use Rattle.surfaces.specs.declared.Plane.{Plane}
 use Rattle.surfaces.specs.declared.Cylinder.{Cylinder}

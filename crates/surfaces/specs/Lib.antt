@@ -1,2 +1,4 @@
-pub mod Surfaces
 pub mod Entries
+pub mod Laws
+pub mod Normals
+pub mod Surfaces

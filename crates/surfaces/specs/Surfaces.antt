@@ -5,13 +5,13 @@ use Rattle.traces.specs.Traces.{Optional, some, none}
 use Rattle.vectors.specs.declared.Vec3.{Vec3}
 use Rattle.directions.specs.Directions.{unitC}
 use Rattle.motions.specs.declared.Rigid.{Rigid}
-use Rattle.axes.specs.Axes as axes
-use Rattle.normals.specs.Normals.{cylinderC, coneC}
-use Rattle.rolls.specs.Rolls.{unrollC}
-use Rattle.frames.specs.declared.Cone.{Cone}
+use Rattle.motions.specs.Axes as axes
+use Rattle.surfaces.specs.Normals.{cylinderC, coneC}
+use Rattle.developments.specs.Rolls.{unrollC}
+use Rattle.cones.specs.declared.Cone.{Cone}
 use Rattle.pieces.specs.declared.Rolled.{Rolled}
 use Rattle.pieces.specs.Pieces as pieces
-use Rattle.curve_parts.specs.Parts.{movedPieceC}
+use Rattle.curves.specs.Parts.{movedPieceC}
 use Rattle.surfaces.specs.declared.Plane.{Plane}
 use Rattle.surfaces.specs.declared.Cylinder.{Cylinder}
 use Rattle.surfaces.specs.declared.Surface.{Surface}

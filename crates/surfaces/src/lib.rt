@@ -5,7 +5,7 @@ ghost use Rattle.vectors.specs.Entries.{vectorDue};
 ghost use Rattle.surfaces.specs.Entries.{surfaceDue, surfacePlaneDue, surfaceConeDue, tests, planeDue, revolutionDue, movedDue, normalDue};
 use checked::OUT_OF_RANGE;
 use checked::is_within;
-use frames::Cone;
+use cones::Cone;
 use motions::Rigid;
 use motions::is_within_rigid;
 use pieces::Rolled;
@@ -14,6 +14,7 @@ use vectors::Vector;
 use vectors::is_within3;
 
 pub mod formula;
+pub mod normals;
 
 // A plane through `origin`, whose normal points out of the body.
 pub struct Plane {

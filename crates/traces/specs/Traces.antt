@@ -2,8 +2,8 @@
 use mathlib.Core.Bool.{Bool, _&&_}
 use lib.Ieee.{Float}
 use Rattle.checked.specs.Checked.{Checked, first, _>>=_, given, finite, num, _⊘_, within, Due, due, refused, answered}
-use Rattle.handed.specs.Handed.{handed, passing}
-use Rattle.wave_values.specs.Values as wave-values
+use Rattle.checked.specs.Handed.{handed, passing}
+use Rattle.waves.specs.Values as wave-values
 use Rattle.waves.specs.Entries.{waveWithin}
 use Rattle.meets.specs.declared.Turn.{Turn}
 use Rattle.meets.specs.declared.Turn.the-variants as turn

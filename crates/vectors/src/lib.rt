@@ -204,9 +204,9 @@ impl Vec3 {
     {
         if is_within3(self) {
             Index::Value(largest(
-                words::fabs(self.x),
-                words::fabs(self.y),
-                words::fabs(self.z),
+                float_bits::fabs(self.x),
+                float_bits::fabs(self.y),
+                float_bits::fabs(self.z),
             ))
         } else {
             Index::Refused(OUT_OF_RANGE)

@@ -7,7 +7,7 @@ use Rattle.vectors.specs.declared.Vec2.{Vec2}
 use Rattle.vectors.specs.declared.Vec3.{Vec3}
 use Rattle.vectors.specs.Vectors.{vec, _⊞_, _⊟_, _⊠_, _⊡_, _⨯_}
 use Rattle.rounding.specs.Computations.{sqrtC}
-use Rattle.rolls.specs.Rolls as rolls
+use Rattle.developments.specs.Rolls as rolls
 use Rattle.integrals.specs.declared.Integrals.{Integrals}
 use Rattle.integrals.specs.Gauss.{stretchC}
 use Rattle.walls.specs.declared.Strip.{Strip}

@@ -2,11 +2,11 @@
 use mathlib.Core.Bool.{Bool, _&&_}
 use lib.Ieee.{Float}
 use Rattle.checked.specs.Checked.{within, Due, due, refused, answered}
-use Rattle.handed.specs.Handed.{handed, passing}
-use Rattle.wave_values.specs.declared.Jet.{Jet}
-use Rattle.wave_values.specs.Values.{jetC}
-use Rattle.wave_ranges.specs.declared.Span.{Span}
-use Rattle.wave_ranges.specs.Ranges.{rangeC}
+use Rattle.checked.specs.Handed.{handed, passing}
+use Rattle.waves.specs.declared.values.Jet.{Jet}
+use Rattle.waves.specs.Values.{jetC}
+use Rattle.waves.specs.declared.turning_points.Span.{Span}
+use Rattle.waves.specs.Ranges.{rangeC}
 use Rattle.waves.specs.declared.Wave.{Wave}
 use Rattle.waves.specs.declared.WaveJet.{WaveJet}
 use Rattle.waves.specs.declared.WaveJet.the-variants as wave-jet

@@ -9,58 +9,58 @@ use lib.Ieee.{Float, binary64, add, sub, mul, div, neg, lt, le, eq, isNan, ofBit
 use Rattle.checked.specs.Checked.{Due, due, refused, first, isFinite, nine, eight, within, settled}
 use Rattle.checked.specs.Patterns.{bits}
 use Rattle.checked.specs.Numbers.{zero, one, two, three, float}
-use Rattle.words.specs.Words.{fabs, signed, choose}
+use Rattle.float_bits.specs.Words.{fabs, signed, choose}
 use Rattle.rounding.specs.Root.{sqrt}
 use Rattle.rounding.specs.Whole.{ceil}
-use Rattle.reduction.specs.Reduction.{secondRound, medium, toFive, toNine, remPio2}
-use Rattle.circle.specs.Circle.{turnedSines, sines, sinesOrZeros}
-use Rattle.arccosine.specs.Arccosine.{acosFar, acosNear}
-use Rattle.roots.specs.Roots.{acos, hypot}
-use Rattle.chords.specs.Chords.{quotientC, chordsC, clamped, perTurnC}
-use Rattle.counts.specs.Counts.{limitedC, countC}
+use Rattle.libm.specs.Reduction.{secondRound, medium, toFive, toNine, remPio2}
+use Rattle.libm.specs.Circle.{turnedSines, sines, sinesOrZeros}
+use Rattle.libm.specs.Arccosine.{acosFar, acosNear}
+use Rattle.libm.specs.Roots.{acos, hypot}
+use Rattle.chord_counts.specs.Chords.{quotientC, chordsC, clamped, perTurnC}
+use Rattle.chord_counts.specs.Counts.{limitedC, countC}
 use Rattle.rows.specs.Rows.{upTo}
-use Rattle.atan.specs.Atan.{reduced, atan}
-use Rattle.arctangent.specs.Arctangent.{isOne, ratioAngle, angle, atan2}
+use Rattle.libm.specs.Atan.{reduced, atan}
+use Rattle.libm.specs.Arctangent.{isOne, ratioAngle, angle, atan2}
 use Rattle.order.specs.Least.{negative, least, greatest}
 use Rattle.vectors.specs.declared.Vec2.{Vec2}
 use Rattle.vectors.specs.declared.Vec3.{Vec3}
 use Rattle.vectors.specs.Vectors.{space, plane, origin, within2, within3, plusC, minusC, timesC, negC, crossC, dotC}
 use Rattle.boxes.specs.Boxes.{empty, lesser, greater, widened, widenedBy, numbers, free, boxCall}
 use Rattle.boxes.specs.declared.Bounds.{Bounds}
-use Rattle.profiles.specs.declared.ProfileArc.{ProfileArc}
+use Rattle.profile_arcs.specs.declared.ProfileArc.{ProfileArc}
 use Rattle.directions.specs.Directions.{lengthC, acrossC}
-use Rattle.angles.specs.Angles.{aheadC, backC}
-use Rattle.profiles.specs.Profiles.{apartC, turnC, turnDue}
-use Rattle.sweeps.specs.Sweeps.{circleWithin, endsWithin, sweepFromC, sweepC}
-use Rattle.spokes.specs.Spokes.{spokeC, turnedC, atC}
-use Rattle.extremes.specs.Extremes.{sideC, takenC, bothC, extremesC, pointsC}
-use Rattle.cuts.specs.Cuts.{chordWithin, cutC, innerC, innersDue}
+use Rattle.profile_arcs.specs.Angles.{aheadC, backC}
+use Rattle.profile_arcs.specs.Profiles.{apartC, turnC, turnDue}
+use Rattle.arcs.specs.Sweeps.{circleWithin, endsWithin, sweepFromC, sweepC}
+use Rattle.arcs.specs.Spokes.{spokeC, turnedC, atC}
+use Rattle.arcs.specs.Extremes.{sideC, takenC, bothC, extremesC, pointsC}
+use Rattle.arcs.specs.Cuts.{chordWithin, cutC, innerC, innersDue}
 use Rattle.arcs.specs.declared.Arc.{Arc}
 use Rattle.arcs.specs.Arcs.{reversedC}
 use Rattle.arcs.specs.Entries.{reversedDue, sweepDue, extendDue, innerPointsDue}
-use Rattle.handed.specs.Handed.{handed, passing}
-use Rattle.wave_values.specs.Values.{jetC}
+use Rattle.checked.specs.Handed.{handed, passing}
+use Rattle.waves.specs.Values.{jetC}
 use Rattle.waves.specs.declared.Wave.{Wave}
 use Rattle.waves.specs.Entries.{waveWithin, atDue}
-use Rattle.pipes.specs.Pipes.{ownC, lesserC, reachC}
-use Rattle.reaches.specs.Reaches.{heightC as zC}
+use Rattle.meets.specs.Pipes.{ownC, lesserC, reachC}
+use Rattle.meets.specs.Reaches.{heightC as zC}
 use Rattle.meets.specs.declared.Turn.the-variants as turn
 use Rattle.meets.specs.declared.Meet.{Meet}
 use Rattle.meets.specs.Meets.{pipeC, heightC}
 use Rattle.meets.specs.Entries.{turnWithin, meetWithin}
 use Rattle.traces.specs.declared.Trace.the-variants as trace
 use Rattle.traces.specs.Traces.{some, meetHeightC, meetC, vC, traceWithin, vDue}
-use Rattle.hypotenuse.specs.Hypotenuse as hypotenuse
+use Rattle.libm.specs.Hypotenuse as hypotenuse
 use Rattle.developments.specs.declared.Development.{Development}
 use Rattle.developments.specs.Developments.{developmentWithin}
-use Rattle.runs.specs.declared.PieceArc.the-variants as piece-arc
-use Rattle.runs.specs.declared.PieceTrace.the-variants as piece-trace
-use Rattle.runs.specs.Runs as runs
-use Rattle.run_points.specs.Points as run-points
-use Rattle.measures.specs.Measures.{distanceC}
-use Rattle.run_boxes.specs.Boxes as run-boxes
-use Rattle.run_counts.specs.Counts.{steepC, offC, waveLineC, polylineC}
-use Rattle.piece_parts.specs.Tests.{arcWithin, followedWithin, isTraced, both, handedPiece}
+use Rattle.piece_curves.specs.declared.PieceArc.the-variants as piece-arc
+use Rattle.piece_curves.specs.declared.PieceTrace.the-variants as piece-trace
+use Rattle.piece_curves.specs.Runs as runs
+use Rattle.piece_curves.specs.Points as run-points
+use Rattle.piece_lengths.specs.Measures.{distanceC}
+use Rattle.piece_boxes.specs.CurveBoxes as run-boxes
+use Rattle.piece_lengths.specs.Counts.{steepC, offC, waveLineC, polylineC}
+use Rattle.pieces.specs.Tests.{arcWithin, followedWithin, isTraced, both, handedPiece}
 use Rattle.pieces.specs.declared.Rolled.{Rolled}
 use Rattle.pieces.specs.Pieces.{runC}
 use Rattle.pieces.specs.Entries as pieces

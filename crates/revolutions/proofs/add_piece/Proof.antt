@@ -1,6 +1,6 @@
 use mathlib.Core.Path.{sym}
 use borrow.Author.Needs.{needs}
-use Rattle.handed.specs.Laws.{passing-none, passing-some}
+use Rattle.checked.specs.HandedLaws.{passing-none, passing-some}
 use Rattle.revolutions.specs.Revolutions.{addDue}
 use Rattle.revolutions.specs.Laws.{piece-is}
 use Rattle.revolutions.proofs.add_piece.Statement.{statement}

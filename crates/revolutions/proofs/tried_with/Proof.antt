@@ -1,5 +1,5 @@
 use borrow.Author.Needs.{needs}
-use Rattle.face_tests.specs.Tests.{tests}
+use Rattle.checked.specs.Tests.{tests}
 use Rattle.revolutions.specs.Revolutions.{pathNeutral, pathSingle, liesOn}
 use Rattle.revolutions.proofs.tried_with.Statement.{statement}
 use Rattle.revolutions.proofs.tried_with.Tie as tie

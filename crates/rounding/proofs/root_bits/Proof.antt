@@ -4,7 +4,7 @@ use mathlib.Core.Logic.{inl, inr}
 use Prim.Native.Nat.{ℕ, _+_, _*_, _%_, _^_, _≤_, _<_}
 use native.Mathlib.Omega.{arith}
 use borrow.Author.Needs.{needs}
-use Rattle.whole_roots.specs.NearRoot.{NearRoot}
+use Rattle.rounding.specs.NearRoot.{NearRoot}
 use Rattle.rounding.proofs.Roots.{Scaled, scaled-even, scaled-odd, near-range-at}
 use Rattle.rounding.proofs.root_bits.Statement.{statement}
 use Rattle.rounding.proofs.root_bits.Tie as tie

@@ -3,7 +3,7 @@ use borrow.Author.Needs.{needs}
 use Rattle.checked.specs.Checked.{Checked}
 use Rattle.checked.specs.Laws.{settled-none, settled-some}
 use Rattle.rows.specs.Laws.{drawn-refused}
-use Rattle.cuts.specs.Cuts.{cutC}
+use Rattle.arcs.specs.Cuts.{cutC}
 use Rattle.arcs.specs.Entries.{innerPointsDue}
 use Rattle.arcs.proofs.Arc.write_inner_points.Statement.{statement}
 use Rattle.arcs.proofs.Arc.write_inner_points.Tie as tie

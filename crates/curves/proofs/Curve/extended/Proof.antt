@@ -1,6 +1,6 @@
 use borrow.Author.Needs.{needs}
 use Rattle.curves.specs.Laws.{extend-is, points-arc, points-piece}
-use Rattle.handed.specs.Laws.{passing-none, passing-some}
+use Rattle.checked.specs.HandedLaws.{passing-none, passing-some}
 use mathlib.Core.Path.{sym, _∙_}
 use Rattle.checked.specs.Laws.{rules as checked-rules}
 use Rattle.curves.proofs.Curve.extended.Statement.{statement}

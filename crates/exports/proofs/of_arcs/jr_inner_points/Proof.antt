@@ -1,5 +1,5 @@
 use mathlib.Core.Path.{sym, _∙_}
-use Rattle.arc_records.specs.Laws.{counted, uncounted}
+use Rattle.c_arrays.specs.Laws.{counted, uncounted}
 use borrow.Author.Needs.{needs}
 use Rattle.exports.proofs.of_arcs.jr_inner_points.Statement.{statement}
 use Rattle.exports.proofs.of_arcs.jr_inner_points.Tie as tie

@@ -1,6 +1,6 @@
 use mathlib.Core.Path.{sym, _∙_}
-use Rattle.arc_records.specs.Records.{afterCount}
-use Rattle.arc_records.specs.Laws.{counted, uncounted}
+use Rattle.c_arrays.specs.ArcRecords.{afterCount}
+use Rattle.c_arrays.specs.Laws.{counted, uncounted}
 use borrow.Author.Needs.{needs}
 use Rattle.exports.proofs.of_curves.jr_curve_inner_points.Statement.{statement}
 use Rattle.exports.proofs.of_curves.jr_curve_inner_points.Tie as tie

@@ -1,6 +1,6 @@
 use borrow.Author.Needs.{needs}
 use Rattle.pieces.specs.Entries.{secondDue}
-use Rattle.handed.specs.Laws.{passing-none, passing-some}
+use Rattle.checked.specs.HandedLaws.{passing-none, passing-some}
 use mathlib.Core.Path.{sym}
 use Rattle.pieces.proofs.Rolled.second.Statement.{statement}
 use Rattle.pieces.proofs.Rolled.second.Tie as tie

@@ -1,7 +1,7 @@
 use borrow.Author.Needs.{needs}
 use Rattle.checked.specs.Laws.{zero-first}
-use Rattle.runs.specs.Runs.{wayC}
-use Rattle.runs.specs.Runs as runs
+use Rattle.piece_curves.specs.Runs.{wayC}
+use Rattle.piece_curves.specs.Runs as runs
 use Rattle.pieces.specs.Pieces.{runC}
 use Rattle.pieces.proofs.formula.measure.Statement.{statement}
 use Rattle.pieces.proofs.formula.measure.Tie as tie

@@ -1,7 +1,7 @@
 use borrow.Author.Needs.{needs}
-use Rattle.courses.specs.Courses.{atC}
+use Rattle.piece_curves.specs.Courses.{atC}
 use Rattle.checked.specs.Laws.{first-zero}
-use Rattle.courses.specs.Laws.{point-refusal, point-value}
+use Rattle.piece_curves.specs.MeetCurvesLaws.{point-refusal, point-value}
 use Rattle.pieces.proofs.formula.meet_at.Statement.{statement}
 use Rattle.pieces.proofs.formula.meet_at.Tie as tie
 

@@ -1,7 +1,7 @@
 use borrow.Author.Needs.{needs}
 use Rattle.checked.specs.Laws.{zero-first, first-zero}
-use Rattle.runs.specs.Runs.{tracedC, meetWayC}
-use Rattle.run_points.specs.Points.{atC}
+use Rattle.piece_curves.specs.Runs.{tracedC, meetWayC}
+use Rattle.piece_curves.specs.Points.{atC}
 use Rattle.pieces.proofs.formula.traced_at.Statement.{statement}
 use Rattle.pieces.proofs.formula.traced_at.Tie as tie
 

@@ -1,6 +1,6 @@
 use borrow.Author.Needs.{needs}
-use Rattle.runs.specs.Runs.{untraced}
-use Rattle.run_points.specs.Points.{atC}
+use Rattle.piece_curves.specs.Runs.{untraced}
+use Rattle.piece_curves.specs.Points.{atC}
 use Rattle.pieces.proofs.formula.untraced_at.Statement.{statement}
 use Rattle.pieces.proofs.formula.untraced_at.Tie as tie
 

@@ -1,6 +1,6 @@
 use borrow.Author.Needs.{needs}
-use Rattle.runs.specs.Runs.{untraced}
-use Rattle.measures.specs.Measures.{measureC}
+use Rattle.piece_curves.specs.Runs.{untraced}
+use Rattle.piece_lengths.specs.Measures.{measureC}
 use Rattle.pieces.proofs.formula.untraced_measure.Statement.{statement}
 use Rattle.pieces.proofs.formula.untraced_measure.Tie as tie
 

@@ -1,2 +1,0 @@
-pub mod Angles
-pub mod Laws

@@ -1,0 +1,69 @@
+use mathlib.Core.Path.{_≡_, refl, sym, _∙_, ap}
+use borrow.Author.Needs.{needs}
+use lib.ListN.{length}
+use Rattle.rows.specs.Rows.{numberOf, allDue}
+use Rattle.rows.specs.Laws.{part-length, part-refused}
+use Rattle.arcs.specs.Cuts.{innersDue}
+use Rattle.arcs.specs.ChordsLaws.{inners-are}
+use Rattle.arcs.proofs.chords.write_points.Statement.{statement}
+use Rattle.arcs.proofs.chords.write_points.Tie as tie
+
+spoke-requires : tie.Need-spoke-requires
+spoke-requires c κs = search needs
+
+cross-requires : tie.Need-cross-requires
+cross-requires c κs = search needs
+
+less-one-requires : tie.Need-less-one-requires
+less-one-requires c κs = search needs
+
+write-requires : tie.Need-write-requires
+write-requires c κs = search needs
+
+same-length : tie.Need-same-length
+same-length c = search needs
+
+returns : tie.Need-returns
+returns c =
+    let start = c .before .before .before .before .before .before .before .before .before .before .args in
+    let w = c .before .before .before .write .ensures in
+    let m = c .before .before .before .before .before .less-one .ensures in
+    let q = c .before .before .before .before .before .before .cross .ensures in
+    let d = c .before .before .before .before .before .before .before .before .spoke .ensures in
+    let is : innersDue (start .center) (start .axis) (start .radius) (start .from) (start .cut) (length (start .row .now)) ≡ allDue _ _ _ _ = inners-are (start .center) (start .axis) (start .radius) (start .from) (start .cut) (length (start .row .now)) in
+    record {
+      number = simp (is, w .0, m, q, d .0, d .1);
+      part = simp (is, m) (sym (part-length _ _ _ _ (sym (simp (m, q, d .0, d .1) at (w .0)) ∙ c .if1 .taken)));
+      rest = simp (is, w .1, m, q, d .0, d .1);
+    }
+
+same-length-2 : tie.Need-same-length-2
+same-length-2 c = search needs
+
+returns-2 : tie.Need-returns-2
+returns-2 c =
+    let start = c .before .before .before .before .before .before .before .before .before .before .args in
+    let w = c .before .before .before .write .ensures in
+    let m = c .before .before .before .before .before .less-one .ensures in
+    let q = c .before .before .before .before .before .before .cross .ensures in
+    let d = c .before .before .before .before .before .before .before .before .spoke .ensures in
+    let is : innersDue (start .center) (start .axis) (start .radius) (start .from) (start .cut) (length (start .row .now)) ≡ allDue _ _ _ _ = inners-are (start .center) (start .axis) (start .radius) (start .from) (start .cut) (length (start .row .now)) in
+    let number : c .before .before .before .write .result ≡ numberOf (innersDue (start .center) (start .axis) (start .radius) (start .from) (start .cut) (length (start .row .now))) = simp (is, w .0, m, q, d .0, d .1) in
+    record {
+      number = number;
+      part = sym (ap length (part-refused (innersDue (start .center) (start .axis) (start .radius) (start .from) (start .cut) (length (start .row .now))) (λ e. c .if1 .left (number ∙ e))));
+      rest = simp (is, w .1, m, q, d .0, d .1);
+    }
+
+pub write-points-spec : {M : Type 1} → statement M
+write-points-spec =
+    tie.close
+    (tie.spec
+    spoke-requires
+    cross-requires
+    less-one-requires
+    write-requires
+    same-length
+    returns
+    same-length-2
+    returns-2)

@@ -1,2 +1,0 @@
-pub mod Atan
-pub mod Laws

@@ -1,0 +1,31 @@
+use borrow.Author.Needs.{needs}
+use Rattle.checked.specs.Laws.{settled-some, settled-none}
+use Rattle.libm.specs.declared.sincos.Sines.{Sines}
+use Rattle.c_arrays.specs.Records.{numberOf, after, over}
+use Rattle.c_arrays.proofs.store_sines.Statement.{statement}
+use Rattle.c_arrays.proofs.store_sines.Tie as tie
+
+element-write-out : tie.Need-element-write-out
+element-write-out c = search needs
+
+element-write-out-2 : tie.Need-element-write-out-2
+element-write-out-2 c = search needs
+
+returns : tie.Need-returns
+unfolding numberOf after over
+returns c = (simp (c .if1 .taken, settled-none), simp (c .if1 .taken, settled-none))
+
+cast-result : tie.Need-cast-result
+cast-result c = search needs
+
+returns-2 : tie.Need-returns-2
+unfolding numberOf after over
+returns-2 c =
+    let a = c .before .args .a in
+    let e = settled-some {A = Sines} (a .refusal) (record { sin = a .sin; cos = a .cos }) (c .if1 .left) in
+    (simp e, simp e)
+
+pub store-sines-spec : {M : Type 1} → statement M
+store-sines-spec =
+    tie.close
+    (tie.spec element-write-out element-write-out-2 returns cast-result returns-2)

@@ -1,0 +1,122 @@
+// Records as arrays of numbers, and answers stored where they are due: cones, frames, sums.
+ghost use mathlib.Core.Path.{_≡_};
+ghost use Rattle.cones.specs.Entries.{frameAnswerDue};
+ghost use Rattle.integrals.specs.Sums.{addedDue};
+ghost use Rattle.c_arrays.specs.Records.{numberOf, after};
+ghost use Rattle.c_arrays.specs.FaceRecords.{cone, frame, sums, ofFrame, ofSums};
+use cones::Cone;
+use cones::Frame;
+use cones::FrameAnswer;
+use integrals::Added;
+use integrals::Integrals;
+use vectors::Vec3;
+
+pub fn cone_of(a: &[f64; 8], convex: bool) -> Cone
+    ensures { λ r. ⌜ r ≡ cone (now (a .entry)) convex ⌝ }
+{
+    Cone {
+        origin: Vec3 {
+            x: a[0],
+            y: a[1],
+            z: a[2],
+        },
+        axis: Vec3 {
+            x: a[3],
+            y: a[4],
+            z: a[5],
+        },
+        radius: a[6],
+        slope: a[7],
+        convex: convex,
+    }
+}
+
+pub fn frame_of(a: &[f64; 12]) -> Frame
+    ensures { λ r. ⌜ r ≡ frame (now (a .entry)) ⌝ }
+{
+    Frame {
+        axis: Vec3 {
+            x: a[0],
+            y: a[1],
+            z: a[2],
+        },
+        origin: Vec3 {
+            x: a[3],
+            y: a[4],
+            z: a[5],
+        },
+        e1: Vec3 {
+            x: a[6],
+            y: a[7],
+            z: a[8],
+        },
+        e2: Vec3 {
+            x: a[9],
+            y: a[10],
+            z: a[11],
+        },
+    }
+}
+
+pub fn sums_of(a: &[f64; 8]) -> Integrals
+    ensures { λ r. ⌜ r ≡ sums (now (a .entry)) ⌝ }
+{
+    Integrals {
+        six_v: a[0],
+        moment: Vec3 {
+            x: a[1],
+            y: a[2],
+            z: a[3],
+        },
+        area: a[4],
+        area_vector: Vec3 {
+            x: a[5],
+            y: a[6],
+            z: a[7],
+        },
+    }
+}
+
+pub fn store_frame(a: FrameAnswer, out: &mut [f64; 12]) -> u32
+    ensures number { λ r. ⌜ r ≡ numberOf (frameAnswerDue a) ⌝ }
+    ensures out { λ _. ⌜ now (out .exit) ≡ after ofFrame (now (out .entry)) (frameAnswerDue a) ⌝ }
+{
+    match a {
+        FrameAnswer::Value(f) => {
+            out[0] = f.axis.x;
+            out[1] = f.axis.y;
+            out[2] = f.axis.z;
+            out[3] = f.origin.x;
+            out[4] = f.origin.y;
+            out[5] = f.origin.z;
+            out[6] = f.e1.x;
+            out[7] = f.e1.y;
+            out[8] = f.e1.z;
+            out[9] = f.e2.x;
+            out[10] = f.e2.y;
+            out[11] = f.e2.z;
+            0
+        }
+        FrameAnswer::Refused(r) => r as u32,
+    }
+}
+
+pub fn store_sums(a: Added, out: &mut [f64; 8]) -> u32
+    ensures number { λ r. ⌜ r ≡ numberOf (addedDue a) ⌝ }
+    ensures out { λ _. ⌜ now (out .exit) ≡ after ofSums (now (out .entry)) (addedDue a) ⌝ }
+{
+    match a {
+        Added::Sums(s) => {
+            out[0] = s.six_v;
+            out[1] = s.moment.x;
+            out[2] = s.moment.y;
+            out[3] = s.moment.z;
+            out[4] = s.area;
+            out[5] = s.area_vector.x;
+            out[6] = s.area_vector.y;
+            out[7] = s.area_vector.z;
+            0
+        }
+        Added::Refused(r) => r as u32,
+    }
+}

@@ -1,0 +1,91 @@
+// Records as arrays of numbers, and answers stored where they are due: numbers and vectors.
+ghost use mathlib.Core.Path.{_≡_};
+ghost use Rattle.checked.specs.Checked.{numberDue};
+ghost use Rattle.vectors.specs.Entries.{vectorDue, indexDue};
+ghost use Rattle.c_arrays.specs.Records.{vec2, vec3, alone, ofVec3, ofSines, numberOf, after, sinesDue};
+use checked::Number;
+use libm::sincos::CheckedSines;
+use vectors::Index;
+use vectors::Vec2;
+use vectors::Vec3;
+use vectors::Vector;
+
+pub mod arc_records;
+pub mod development_records;
+pub mod face_records;
+pub mod trace_records;
+
+// The answer to a tag that nobody knows, and the answer where there is no result to give.
+pub const UNKNOWN_TAG: u32 = 254;
+
+pub const NONE: u32 = 255;
+
+pub fn vec2_of(a: &[f64; 2]) -> Vec2
+    ensures { λ r. ⌜ r ≡ vec2 (now (a .entry)) ⌝ }
+{
+    Vec2 { x: a[0], y: a[1] }
+}
+
+pub fn vec3_of(a: &[f64; 3]) -> Vec3
+    ensures { λ r. ⌜ r ≡ vec3 (now (a .entry)) ⌝ }
+{
+    Vec3 {
+        x: a[0],
+        y: a[1],
+        z: a[2],
+    }
+}
+
+pub fn store_number(n: Number, out: &mut [f64; 1]) -> u32
+    ensures number { λ r. ⌜ r ≡ numberOf (numberDue n) ⌝ }
+    ensures out { λ _. ⌜ now (out .exit) ≡ after alone (now (out .entry)) (numberDue n) ⌝ }
+{
+    match n {
+        Number::Value(x) => {
+            out[0] = x;
+            0
+        }
+        Number::Refused(r) => r as u32,
+    }
+}
+
+pub fn store_vector(v: Vector, out: &mut [f64; 3]) -> u32
+    ensures number { λ r. ⌜ r ≡ numberOf (vectorDue v) ⌝ }
+    ensures out { λ _. ⌜ now (out .exit) ≡ after ofVec3 (now (out .entry)) (vectorDue v) ⌝ }
+{
+    match v {
+        Vector::Value(p) => {
+            out[0] = p.x;
+            out[1] = p.y;
+            out[2] = p.z;
+            0
+        }
+        Vector::Refused(r) => r as u32,
+    }
+}
+
+pub fn store_index(k: Index, out: &mut [u64; 1]) -> u32
+    ensures number { λ r. ⌜ r ≡ numberOf (indexDue k) ⌝ }
+    ensures out { λ _. ⌜ now (out .exit) ≡ after alone (now (out .entry)) (indexDue k) ⌝ }
+{
+    match k {
+        Index::Value(i) => {
+            out[0] = i as u64;
+            0
+        }
+        Index::Refused(r) => r as u32,
+    }
+}
+
+pub fn store_sines(a: CheckedSines, out: &mut [f64; 2]) -> u32
+    ensures number { λ r. ⌜ r ≡ numberOf (sinesDue a) ⌝ }
+    ensures out { λ _. ⌜ now (out .exit) ≡ after ofSines (now (out .entry)) (sinesDue a) ⌝ }
+{
+    let r = a.refusal;
+    if r == 0 {
+        out[0] = a.sin;
+        out[1] = a.cos;
+        return 0;
+    }
+    r as u32
+}

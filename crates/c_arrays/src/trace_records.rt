@@ -1,0 +1,155 @@
+// Records as arrays of numbers, and answers stored where they are due: waves, meets, traces.
+ghost use mathlib.Core.Path.{_≡_};
+ghost use Rattle.waves.specs.Entries.{jetDue, spanDue};
+ghost use Rattle.meets.specs.Entries.{pointsDue};
+ghost use Rattle.traces.specs.Traces.{heightDue};
+ghost use Rattle.c_arrays.specs.Records.{alone, numberOf, after};
+ghost use Rattle.c_arrays.specs.TraceRecords.{wave, isTurn, turnOf, meet, isTrace, traceOf, ofJet, ofSpan, ofPoints, someDue};
+use crate::NONE;
+use meets::Meet;
+use meets::MeetPoint;
+use meets::Turn;
+use traces::Height;
+use traces::Trace;
+use vectors::Vec3;
+use waves::Wave;
+use waves::WaveJet;
+use waves::WaveSpan;
+
+pub fn wave_of(a: &[f64; 3]) -> Wave
+    ensures { λ r. ⌜ r ≡ wave (now (a .entry)) ⌝ }
+{
+    Wave {
+        a: a[0],
+        b: a[1],
+        c: a[2],
+    }
+}
+
+// Whether a tag is one of a meet's: 0 without `turn`, 1 with it.
+pub fn is_turn(tag: u32) -> bool
+    ensures { λ r. ⌜ r ≡ isTurn tag ⌝ }
+{
+    tag <= 1
+}
+
+// The two angles count where the tag is not 0.
+fn turn_of(tag: u32, from: f64, to: f64) -> Turn
+    ensures { λ r. ⌜ r ≡ turnOf tag from to ⌝ }
+{
+    if tag == 0 {
+        Turn::Without
+    } else {
+        Turn::Angles(from, to)
+    }
+}
+
+pub fn meet_of(a: &[f64; 10], tag: u32) -> Meet
+    ensures { λ r. ⌜ r ≡ meet (now (a .entry)) tag ⌝ }
+{
+    Meet {
+        origin: Vec3 {
+            x: a[0],
+            y: a[1],
+            z: a[2],
+        },
+        axis: Vec3 {
+            x: a[3],
+            y: a[4],
+            z: a[5],
+        },
+        radius: a[6],
+        own: a[7],
+        turn: turn_of(tag, a[8], a[9]),
+    }
+}
+
+// Whether a tag is one of a trace's: 1 a wave, 2 a meet without `turn`, 3 a meet with it.
+pub fn is_trace(kind: u32) -> bool
+    ensures { λ r. ⌜ r ≡ isTrace kind ⌝ }
+{
+    (1 <= kind) & (kind <= 3)
+}
+
+pub fn trace_of(a: &[f64; 10], kind: u32) -> Trace
+    ensures { λ r. ⌜ r ≡ traceOf (now (a .entry)) kind ⌝ }
+{
+    if kind == 1 {
+        Trace::Wave(Wave {
+            a: a[0],
+            b: a[1],
+            c: a[2],
+        })
+    } else if kind == 2 {
+        Trace::Meet(meet_of(a, 0))
+    } else {
+        Trace::Meet(meet_of(a, 1))
+    }
+}
+
+// v and its two derivatives.
+pub fn store_jet(w: WaveJet, out: &mut [f64; 3]) -> u32
+    ensures number { λ r. ⌜ r ≡ numberOf (jetDue w) ⌝ }
+    ensures out { λ _. ⌜ now (out .exit) ≡ after ofJet (now (out .entry)) (jetDue w) ⌝ }
+{
+    match w {
+        WaveJet::Value(j) => {
+            out[0] = j.v;
+            out[1] = j.slope;
+            out[2] = j.bend;
+            0
+        }
+        WaveJet::Refused(r) => r as u32,
+    }
+}
+
+// The least and the greatest v.
+pub fn store_span(w: WaveSpan, out: &mut [f64; 2]) -> u32
+    ensures number { λ r. ⌜ r ≡ numberOf (spanDue w) ⌝ }
+    ensures out { λ _. ⌜ now (out .exit) ≡ after ofSpan (now (out .entry)) (spanDue w) ⌝ }
+{
+    match w {
+        WaveSpan::Value(s) => {
+            out[0] = s.low;
+            out[1] = s.high;
+            0
+        }
+        WaveSpan::Refused(r) => r as u32,
+    }
+}
+
+// The point and its two derivatives.
+pub fn store_points(m: MeetPoint, out: &mut [f64; 9]) -> u32
+    ensures number { λ r. ⌜ r ≡ numberOf (pointsDue m) ⌝ }
+    ensures out { λ _. ⌜ now (out .exit) ≡ after ofPoints (now (out .entry)) (pointsDue m) ⌝ }
+{
+    match m {
+        MeetPoint::Value(j) => {
+            out[0] = j.q.x;
+            out[1] = j.q.y;
+            out[2] = j.q.z;
+            out[3] = j.q1.x;
+            out[4] = j.q1.y;
+            out[5] = j.q1.z;
+            out[6] = j.q2.x;
+            out[7] = j.q2.y;
+            out[8] = j.q2.z;
+            0
+        }
+        MeetPoint::Refused(r) => r as u32,
+    }
+}
+
+pub fn store_height(h: Height, out: &mut [f64; 1]) -> u32
+    ensures number { λ r. ⌜ r ≡ numberOf (someDue (heightDue h)) ⌝ }
+    ensures out { λ _. ⌜ now (out .exit) ≡ after alone (now (out .entry)) (someDue (heightDue h)) ⌝ }
+{
+    match h {
+        Height::Value(v) => {
+            out[0] = v;
+            0
+        }
+        Height::Nothing => NONE,
+        Height::Refused(r) => r as u32,
+    }
+}

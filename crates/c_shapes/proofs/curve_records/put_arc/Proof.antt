@@ -1,0 +1,32 @@
+use Rattle.c_arrays.specs.Records.{over}
+use borrow.Author.Needs.{needs}
+use Rattle.c_shapes.proofs.curve_records.put_arc.Statement.{statement}
+use Rattle.c_shapes.proofs.curve_records.put_arc.Tie as tie
+
+element-write-out : tie.Need-element-write-out
+element-write-out c = search needs
+
+element-write-out-2 : tie.Need-element-write-out-2
+element-write-out-2 c = search needs
+
+element-write-out-3 : tie.Need-element-write-out-3
+element-write-out-3 c = search needs
+
+element-write-out-4 : tie.Need-element-write-out-4
+element-write-out-4 c = search needs
+
+element-write-out-5 : tie.Need-element-write-out-5
+element-write-out-5 c = search needs
+
+element-write-out-6 : tie.Need-element-write-out-6
+element-write-out-6 c = search needs
+
+element-write-out-7 : tie.Need-element-write-out-7
+element-write-out-7 c = search needs
+
+returns : tie.Need-returns
+unfolding over
+returns c = search needs
+
+pub put-arc-spec : {M : Type 1} → statement M
+put-arc-spec = tie.close (tie.spec element-write-out element-write-out-2 element-write-out-3 element-write-out-4 element-write-out-5 element-write-out-6 element-write-out-7 returns)

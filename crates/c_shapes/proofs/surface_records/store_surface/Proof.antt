@@ -1,0 +1,28 @@
+use Rattle.c_arrays.specs.Records.{numberOf}
+use Rattle.c_shapes.specs.Stores.{stored}
+use borrow.Author.Needs.{needs}
+use Rattle.c_shapes.proofs.surface_records.store_surface.Statement.{statement}
+use Rattle.c_shapes.proofs.surface_records.store_surface.Tie as tie
+
+enum-known-a : tie.Need-enum-known-a
+enum-known-a c = search needs
+
+put-surface-requires : tie.Need-put-surface-requires
+put-surface-requires c κs = search needs
+
+enum-known-a-2 : tie.Need-enum-known-a-2
+enum-known-a-2 c = search needs
+
+cast-result : tie.Need-cast-result
+cast-result c = search needs
+
+returns : tie.Need-returns
+unfolding numberOf stored
+returns c = (simp (c .before .before .before .a .given .1), simp (c .put-surface .ensures, c .before .before .before .a .given .1))
+
+returns-2 : tie.Need-returns-2
+unfolding numberOf stored
+returns-2 c = (simp (c .before .a2 .given .1), simp (c .before .a2 .given .1))
+
+pub store-surface-spec : {M : Type 1} → statement M
+store-surface-spec = tie.close (tie.spec enum-known-a put-surface-requires enum-known-a-2 cast-result returns returns-2)

@@ -1,0 +1,4 @@
+pub mod CurveRecords
+pub mod PieceRecords
+pub mod Stores
+pub mod SurfaceRecords

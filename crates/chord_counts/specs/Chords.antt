@@ -1,0 +1,48 @@
+-- How many chords a circle is drawn with.
+use mathlib.Core.Bool.{Bool, not, cond, _&&_}
+use lib.Ieee.{Float, binary64, div, lt, ofBits}
+use Rattle.checked.specs.Refusals.{OUT-OF-RANGE, BAD-TOLERANCE}
+use Rattle.checked.specs.Checked.{Checked, first, _>>=_, given, finite, num, within, _⊖_, _⊘_, Due, answered, unless}
+use Rattle.checked.specs.Numbers.{zero, one, pi}
+use Rattle.rounding.specs.Whole.{ceil}
+use Rattle.libm.specs.Roots.{acos}
+
+-- SEGMENTS: a full turn has at least 12 chords and at most 64
+abbrev pub fewest : Float
+fewest = ofBits binary64 0x4028_0000_0000_0000
+
+abbrev pub most : Float
+most = ofBits binary64 0x4050_0000_0000_0000
+
+-- the arc cosine
+abbrev pub acosC : Checked Float → Checked Float
+acosC m = do
+  x ← m
+  finite (acos x)
+
+-- where the chord is below the radius: π over half the angle of a chord that is `chord` off the
+-- circle. The quotient is infinite for a chord of 0, and is not tried.
+unfoldable pub quotientC : Float → Float → Checked Float
+quotientC radius chord = do
+  a ← acosC (num one ⊖ num chord ⊘ num radius)
+  given (div binary64 pi a)
+
+unfoldable pub chordsC : Float → Float → Checked Float
+chordsC radius chord = cond (lt chord radius) (quotientC radius chord) (given zero)
+
+-- `x.clamp(12.0, 64.0)`
+unfoldable pub clamped : Float → Float
+clamped x = cond (lt x fewest) fewest (cond (lt most x) most x)
+
+-- the chords of a full turn: a whole number from 12 to 64 (`per-turn-range` of crates/turns), as
+-- an f64
+unfoldable pub perTurnC : Float → Float → Checked Float
+perTurnC radius chord = do
+  n ← chordsC radius chord
+  given (clamped (ceil binary64 n))
+
+-- `per_turn`, an entry: -0 is no chord below 0
+unfoldable pub perTurnDue : Float → Float → Due Float
+perTurnDue radius chord =
+    unless OUT-OF-RANGE (within radius && within chord)
+    (unless BAD-TOLERANCE (not (lt chord zero)) (answered (perTurnC radius chord)))

@@ -1,0 +1,3 @@
+pub mod Chords
+pub mod Counts
+pub mod Laws

@@ -1,0 +1,35 @@
+// How many chords a circle is drawn with: what a program may call is here, the bare formulas are in
+// `formula`.
+ghost use mathlib.Core.Path.{_≡_};
+ghost use mathlib.Core.Bool.{_&&_};
+ghost use Rattle.checked.specs.Checked.{numberDue, within};
+ghost use Rattle.chord_counts.specs.Chords.{perTurnDue};
+use checked::BAD_TOLERANCE;
+use checked::Number;
+use checked::OUT_OF_RANGE;
+use checked::is_within;
+use checked::settle;
+
+pub mod counts;
+pub mod formula;
+
+fn are_within(radius: f64, chord: f64) -> bool
+    ensures { λ r. ⌜ r ≡ (within radius && within chord) ⌝ }
+{
+    is_within(radius) & is_within(chord)
+}
+
+// The chords that a full turn of a circle needs to stay within `chord` of it: 12 to 64.
+pub fn per_turn(radius: f64, chord: f64) -> Number
+    ensures { λ r. ⌜ numberDue r ≡ perTurnDue radius chord ⌝ }
+{
+    if are_within(radius, chord) {
+        if chord < 0.0 {
+            Number::Refused(BAD_TOLERANCE)
+        } else {
+            settle(formula::per_turn(radius, chord))
+        }
+    } else {
+        Number::Refused(OUT_OF_RANGE)
+    }
+}

@@ -1,3 +1,0 @@
-pub mod Circle
-pub mod Laws
-pub mod Values

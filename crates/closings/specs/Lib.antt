@@ -1,2 +1,0 @@
-pub mod Closings
-pub mod Laws

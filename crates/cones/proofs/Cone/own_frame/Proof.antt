@@ -1,0 +1,22 @@
+use borrow.Author.Needs.{needs}
+use Rattle.cones.specs.Entries.{frameDue}
+use mathlib.Core.Path.{sym, _∙_}
+use Rattle.cones.proofs.Cone.own_frame.Statement.{statement}
+use Rattle.cones.proofs.Cone.own_frame.Tie as tie
+
+is-within-requires : tie.Need-is-within-requires
+is-within-requires c κs = search needs
+
+answer-requires : tie.Need-answer-requires
+answer-requires c κs = search needs
+
+returns : tie.Need-returns
+unfolding frameDue
+returns c = simp (c .answer .ensures, sym (c .before .before .is-within .ensures) ∙ c .before .if1 .taken)
+
+returns-2 : tie.Need-returns-2
+unfolding frameDue
+returns-2 c = simp (sym (c .before .is-within .ensures) ∙ c .if1 .left)
+
+pub own-frame-spec : {M : Type 1} → statement M
+own-frame-spec = tie.close (tie.spec is-within-requires answer-requires returns returns-2)

@@ -1,0 +1,26 @@
+use borrow.Author.Needs.{needs}
+use Rattle.cones.specs.Entries.{angleDue}
+use mathlib.Core.Path.{sym, _∙_}
+use Rattle.cones.proofs.Frame.angle.Statement.{statement}
+use Rattle.cones.proofs.Frame.angle.Tie as tie
+
+is-within-with-requires : tie.Need-is-within-with-requires
+is-within-with-requires c κs = search needs
+
+angle-requires : tie.Need-angle-requires
+angle-requires c κs = search needs
+
+settle-requires : tie.Need-settle-requires
+settle-requires c κs = search needs
+
+returns : tie.Need-returns
+unfolding angleDue
+returns c = simp (c .settle .ensures, c .before .angle .ensures .0, c .before .angle .ensures .1, sym (c .before .before .before .is-within-with .ensures) ∙ c .before .before .if1 .taken)
+
+returns-2 : tie.Need-returns-2
+unfolding angleDue
+returns-2 c = simp (sym (c .before .is-within-with .ensures) ∙ c .if1 .left)
+
+pub angle-spec : {M : Type 1} → statement M
+angle-spec =
+    tie.close (tie.spec is-within-with-requires angle-requires settle-requires returns returns-2)

@@ -1,0 +1,29 @@
+use borrow.Author.Needs.{needs}
+use Rattle.curves.specs.DrawnEntries.{chordsOf, ready}
+use Rattle.curves.proofs.drawn.cut_up.Statement.{statement}
+use Rattle.curves.proofs.drawn.cut_up.Tie as tie
+
+run-requires : tie.Need-run-requires
+run-requires c κs = search needs
+
+chords-of-requires : tie.Need-chords-of-requires
+chords-of-requires c κs = search needs
+
+earlier-requires : tie.Need-earlier-requires
+earlier-requires c κs = search needs
+
+returns : tie.Need-returns
+unfolding chordsOf ready
+returns c =
+    let n = c .before .before .before .before .chords-of .ensures in
+    let x = c .before .before .before .before .before .before .run .ensures in
+    (simp (c .earlier .ensures, n .0, x .0, x .1), (simp (n .1, x .1), simp (x .1)))
+
+pub cut-up-spec : {M : Type 1} → statement M
+cut-up-spec =
+    tie.close
+    (tie.spec
+    run-requires
+    chords-of-requires
+    earlier-requires
+    returns)

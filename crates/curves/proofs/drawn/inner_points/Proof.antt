@@ -1,0 +1,37 @@
+use Prim.Native.Nat.{_*_, _≤_}
+use lib.ListN.{length}
+use Rattle.curves.specs.DrawnEntries.{innerPointsDue}
+use mathlib.Core.Path.{sym}
+use lib.Seq.{length-take-le}
+use Rattle.rows.specs.Laws.{part-taken, part-fits}
+use borrow.Author.Needs.{needs}
+use Rattle.curves.proofs.drawn.inner_points.Statement.{statement}
+use Rattle.curves.proofs.drawn.inner_points.Tie as tie
+
+write-inner-points-requires : tie.Need-write-inner-points-requires
+write-inner-points-requires c κs = search needs
+
+cast-n : tie.Need-cast-n
+cast-n c = search needs
+
+mul-n : tie.Need-mul-n
+mul-n c = search needs
+
+slice-aggregate-result : tie.Need-slice-aggregate-result
+slice-aggregate-result c =
+    let start = c .before .before .before .before .before .before .before .args in
+    let call = c .before .before .before .before .write-inner-points in
+    let due = innerPointsDue (start .c) (start .from) (start .to) (start .chord) (length (start .row .now)) in
+    let fits : 3 * call .result .points ≤ length (call .last .1 .1 .1 .1 .0) = rw (call .ensures .part, call .ensures .rest) (part-fits due (start .row .now)) in
+    sym (length-take-le (3 * call .result .points) (call .last .1 .1 .1 .1 .0) fits)
+
+returns : tie.Need-returns
+returns c =
+    let start = c .before .before .before .before .before .before .before .args in
+    let call = c .before .before .before .before .write-inner-points in
+    let due = innerPointsDue (start .c) (start .from) (start .to) (start .chord) (length (start .row .now)) in
+    (simp (call .ensures .part, call .ensures .rest) (part-taken due (start .row .now)), call .ensures .number)
+
+pub inner-points-spec : {M : Type 1} → statement M
+inner-points-spec =
+    tie.close (tie.spec write-inner-points-requires cast-n mul-n slice-aggregate-result returns)

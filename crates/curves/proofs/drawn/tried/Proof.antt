@@ -1,0 +1,34 @@
+use borrow.Author.Needs.{needs}
+use Rattle.curves.specs.DrawnEntries.{tests}
+use Rattle.curves.proofs.drawn.tried.Statement.{statement}
+use Rattle.curves.proofs.drawn.tried.Tie as tie
+
+is-within-requires : tie.Need-is-within-requires
+is-within-requires c κs = search needs
+
+is-within3-requires : tie.Need-is-within3-requires
+is-within3-requires c κs = search needs
+
+is-within3-requires-2 : tie.Need-is-within3-requires-2
+is-within3-requires-2 c κs = search needs
+
+is-within-requires-2 : tie.Need-is-within-requires-2
+is-within-requires-2 c κs = search needs
+
+tried-requires : tie.Need-tried-requires
+tried-requires c κs = search needs
+
+returns : tie.Need-returns
+unfolding tests
+returns c = simp (c .tried .ensures, ← c .before .is-within2 .ensures, ← c .before .before .is-within32 .ensures, ← c .before .before .before .is-within3 .ensures, ← c .before .before .before .before .is-within .ensures)
+
+pub tried-spec : {M : Type 1} → statement M
+tried-spec =
+    tie.close
+    (tie.spec
+    is-within-requires
+    is-within3-requires
+    is-within3-requires-2
+    is-within-requires-2
+    tried-requires
+    returns)

@@ -1,0 +1,58 @@
+use mathlib.Core.Path.{_≡_, sym, _∙_}
+use borrow.Author.Needs.{needs}
+use Rattle.checked.specs.Checked.{Checked}
+use Rattle.checked.specs.Laws.{settled-none, settled-some}
+use Rattle.checked.specs.HandedLaws.{passing-none}
+use Rattle.rows.specs.Laws.{drawn-refused}
+use Rattle.curves.specs.DrawnEntries.{chordsOf, pieceDue}
+use Rattle.curves.specs.DrawnLaws.{drawn-failed}
+use Rattle.curves.proofs.drawn.write_piece.Statement.{statement}
+use Rattle.curves.proofs.drawn.write_piece.Tie as tie
+
+tried-requires : tie.Need-tried-requires
+tried-requires c κs = search needs
+
+cut-up-requires : tie.Need-cut-up-requires
+cut-up-requires c κs = search needs
+
+write-points-requires : tie.Need-write-points-requires
+write-points-requires c κs = search needs
+
+same-length : tie.Need-same-length
+same-length c = search needs
+
+returns : tie.Need-returns
+unfolding pieceDue
+returns c =
+    let points = c .before .before .write-points .ensures in
+    let cut = c .before .before .before .before .before .before in
+    let tried = cut .before .before in
+    let start = tried .before .before .args in
+    let none : chordsOf (start .w) (start .chord) .refusal ≡ 0 = sym (cut .cut-up .ensures .0) ∙ c .before .before .before .before .if2 .taken in
+    simp (cut .before .if1 .taken, passing-none, ← tried .tried .ensures, none, settled-none)
+    (simp (cut .cut-up .ensures .1 .0, cut .cut-up .ensures .1 .1) at points)
+
+returns-2 : tie.Need-returns-2
+unfolding pieceDue
+returns-2 c =
+    let cut = c .before .before in
+    let tried = cut .before .before in
+    let start = tried .before .before .args in
+    let due = settled-some (chordsOf (start .w) (start .chord) .refusal) (chordsOf (start .w) (start .chord) .value) (λ e. c .if2 .left (cut .cut-up .ensures .0 ∙ e)) in
+    simp (cut .before .if1 .taken, passing-none, ← tried .tried .ensures, due, cut .cut-up .ensures .0) (drawn-refused _ _)
+
+returns-3 : tie.Need-returns-3
+unfolding pieceDue
+returns-3 c = simp (← c .before .tried .ensures) (drawn-failed _ _ _ (c .if1 .left))
+
+pub write-piece-spec : {M : Type 1} → statement M
+write-piece-spec =
+    tie.close
+    (tie.spec
+    tried-requires
+    cut-up-requires
+    write-points-requires
+    same-length
+    returns
+    returns-2
+    returns-3)

@@ -1,2 +1,0 @@
-pub mod CutWalls
-pub mod Entries

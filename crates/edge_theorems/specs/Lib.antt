@@ -1,0 +1,2 @@
+pub mod ArcFiles
+pub mod FileBoxes

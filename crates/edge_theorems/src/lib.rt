@@ -1,0 +1,3 @@
+// What holds of edge files.
+pub mod arc_files;
+pub mod file_boxes;

@@ -1,3 +1,0 @@
-pub mod Extremes
-pub mod Laws
-pub mod Sound

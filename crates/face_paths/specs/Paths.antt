@@ -1,0 +1,46 @@
+-- The running sums of a face after a path.
+use lib.Ieee.{Float}
+use Rattle.checked.specs.Checked.{Checked, first, _>>=_}
+use Rattle.vectors.specs.declared.Vec2.{Vec2}
+use Rattle.vectors.specs.declared.Vec3.{Vec3}
+use Rattle.developments.specs.declared.Development.{Development}
+use Rattle.piece_curves.specs.declared.PieceArc.{PieceArc}
+use Rattle.piece_curves.specs.declared.PieceTrace.{PieceTrace}
+use Rattle.piece_curves.specs.Runs.{runC}
+use Rattle.piece_lengths.specs.Counts.{quadratureC}
+use Rattle.arcs.specs.declared.Arc.{Arc}
+use Rattle.cones.specs.declared.Cone.{Cone}
+use Rattle.integrals.specs.declared.Integrals.{Integrals}
+use Rattle.integrals.specs.declared.integrands.Revolved.{Revolved}
+use Rattle.integrals.specs.declared.integrands.Place.{Place}
+use Rattle.integrals.specs.Along.{pathAlongC}
+use Rattle.integrals.specs.Integrands.{revolvedC}
+use Rattle.face_paths.specs.ArcPaths.{courseAt, arcPathC}
+use Rattle.face_paths.specs.PiecePaths.{driftC, driftAt}
+use Rattle.face_paths.specs.declared.Track.{Track}
+use Rattle.face_paths.specs.declared.Track.the-variants as track
+
+-- where a path is at t
+unfoldable pub trackAt : Track → Float → Checked Place
+trackAt (track.Arc c) = courseAt c
+trackAt (track.Piece d) = driftAt d
+
+-- the running sums after a piece of the development `dev`
+unfoldable pub piecePathC : Revolved → Development → Vec2 → Vec2 → PieceArc → PieceTrace → Integrals → Checked Integrals
+piecePathC v dev from to arc trace s = do
+  c ← driftC (v .frame) (dev .origin) (dev .axis) (dev .start) (runC from to (dev .neutral) arc trace)
+  n ← quadratureC (c .run)
+  pathAlongC v (driftAt c) n s
+
+-- ---- where a path's call works out the surface for itself
+-- an arc from u to v
+unfoldable pub withArcC : Cone → Vec3 → Arc → Vec3 → Vec3 → Integrals → Checked Integrals
+withArcC cone o arc u v s = do
+  w ← revolvedC cone o
+  arcPathC w arc u v s
+
+-- a piece
+unfoldable pub withPieceC : Cone → Vec3 → Development → Vec2 → Vec2 → PieceArc → PieceTrace → Integrals → Checked Integrals
+withPieceC cone o dev from to arc trace s = do
+  w ← revolvedC cone o
+  piecePathC w dev from to arc trace s

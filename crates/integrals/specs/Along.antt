@@ -1,0 +1,21 @@
+-- The integral along a path, t ↦ (θ, z, dθ/dt) for t from 0 to 1: −∫ P(θ, z) dθ, where P(θ, z) =
+-- ∫₀ᶻ f(θ, s) ds.
+use Prim.Native.Nat.{ℕ}
+use lib.Ieee.{Float}
+use Rattle.checked.specs.Checked.{Checked, _>>=_}
+use Rattle.integrals.specs.declared.Integrals.{Integrals}
+use Rattle.integrals.specs.Gauss.{alongC}
+use Rattle.integrals.specs.declared.integrands.Revolved.{Revolved}
+use Rattle.integrals.specs.declared.integrands.Place.{Place}
+use Rattle.integrals.specs.Integrands.{nodeC}
+
+module _ (v : Revolved) (path : Float → Checked Place) where
+  -- the sums after the node at t, of weight `wgt`, on a stretch of length h
+  unfoldable pub nodeAtC : Float → Float → Float → Integrals → Checked Integrals
+  nodeAtC h wgt t s = do
+    p ← path t
+    nodeC v p h wgt s
+
+  -- `along`: the sums after n stretches of the path
+  abbrev pub pathAlongC : ℕ → Integrals → Checked Integrals
+  pathAlongC n s = alongC nodeAtC n s

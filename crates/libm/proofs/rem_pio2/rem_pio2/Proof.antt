@@ -1,0 +1,41 @@
+use borrow.Author.Needs.{needs}
+use Rattle.libm.specs.Reduction.{remPio2}
+use borrow.Author.Tests.{le-leb, lt-leb}
+use Rattle.libm.proofs.rem_pio2.rem_pio2.Statement.{statement}
+use Rattle.libm.proofs.rem_pio2.rem_pio2.Tie as tie
+
+high-word-requires : tie.Need-high-word-requires
+high-word-requires c κs = search needs
+
+to-five-requires : tie.Need-to-five-requires
+to-five-requires c κs = search needs
+
+to-nine-requires : tie.Need-to-nine-requires
+to-nine-requires c κs = search needs
+
+medium-requires : tie.Need-medium-requires
+medium-requires c κs = search needs
+
+returns : tie.Need-returns
+unfolding remPio2
+returns c = simp (c .to-five .ensures, le-leb _ _ (c .before .if1 .taken), ← c .before .before .high-word .ensures)
+
+returns-2 : tie.Need-returns-2
+unfolding remPio2
+returns-2 c = simp (c .to-nine .ensures, le-leb _ _ (c .before .if2 .taken), lt-leb _ _ (c .before .before .if1 .left), ← c .before .before .before .high-word .ensures)
+
+returns-3 : tie.Need-returns-3
+unfolding remPio2
+returns-3 c = simp (c .medium .ensures, lt-leb _ _ (c .before .if2 .left), lt-leb _ _ (c .before .before .if1 .left), ← c .before .before .before .high-word .ensures)
+
+pub rem-pio2-spec : {M : Type 1} → statement M
+rem-pio2-spec =
+    tie.close
+    (tie.spec
+    high-word-requires
+    to-five-requires
+    to-nine-requires
+    medium-requires
+    returns
+    returns-2
+    returns-3)

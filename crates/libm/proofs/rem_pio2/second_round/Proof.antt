@@ -1,0 +1,30 @@
+use Rattle.float_bits.specs.Laws.{gap-yes, gap-no}
+use borrow.Author.Needs.{needs}
+use Rattle.libm.specs.Reduction.{secondRound}
+use Rattle.libm.proofs.rem_pio2.second_round.Statement.{statement}
+use Rattle.libm.proofs.rem_pio2.second_round.Tie as tie
+
+exponent-requires : tie.Need-exponent-requires
+exponent-requires c κs = search needs
+
+add-if1 : tie.Need-add-if1
+add-if1 c = search needs
+
+third-round-requires : tie.Need-third-round-requires
+third-round-requires c κs = search needs
+
+parted-requires : tie.Need-parted-requires
+parted-requires c κs = search needs
+
+returns : tie.Need-returns
+unfolding secondRound
+returns c = simp (c .third-round .ensures, gap-yes _ _ _ (c .before .if1 .taken), ← c .before .before .exponent .ensures)
+
+returns-2 : tie.Need-returns-2
+unfolding secondRound
+returns-2 c = simp (c .parted .ensures, gap-no _ _ _ (c .before .if1 .left), ← c .before .before .exponent .ensures)
+
+pub second-round-spec : {M : Type 1} → statement M
+second-round-spec =
+    tie.close
+    (tie.spec exponent-requires add-if1 third-round-requires parted-requires returns returns-2)

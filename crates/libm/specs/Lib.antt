@@ -1,0 +1,17 @@
+pub mod Arccosine
+pub mod Arctangent
+pub mod Atan
+pub mod Atan2Laws
+pub mod Atan2Values
+pub mod AtanLaws
+pub mod Circle
+pub mod Computations
+pub mod Hypotenuse
+pub mod Kernels
+pub mod Reduction
+pub mod RemPio2Laws
+pub mod Roots
+pub mod RootsLaws
+pub mod RootsValues
+pub mod SincosLaws
+pub mod SincosValues

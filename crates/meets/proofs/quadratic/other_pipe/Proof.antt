@@ -1,0 +1,26 @@
+use borrow.Author.Needs.{needs}
+use Rattle.meets.specs.Pipes.{otherC}
+use Rattle.meets.specs.QuadraticLaws.{other-refusal}
+use mathlib.Core.Path.{sym, _∙_}
+use Rattle.meets.proofs.quadratic.other_pipe.Statement.{statement}
+use Rattle.meets.proofs.quadratic.other_pipe.Tie as tie
+
+cross-requires : tie.Need-cross-requires
+cross-requires c κs = search needs
+
+unit-requires : tie.Need-unit-requires
+unit-requires c κs = search needs
+
+cross-requires-2 : tie.Need-cross-requires-2
+cross-requires-2 c κs = search needs
+
+noted-requires : tie.Need-noted-requires
+noted-requires c κs = search needs
+
+returns : tie.Need-returns
+unfolding otherC
+returns c = ((simp (c .noted .ensures, c .before .cross2 .ensures, c .before .before .before .unit .ensures .0, c .before .before .before .unit .ensures .1, c .before .before .before .before .cross .ensures)) ∙ sym (other-refusal (c .before .before .before .before .before .args .origin) (c .before .before .before .before .before .args .axis) (c .before .before .before .before .before .args .radius) (c .before .before .before .before .before .args .own)), simp (c .before .cross2 .ensures, c .before .before .before .unit .ensures .1, c .before .before .before .before .cross .ensures))
+
+pub other-pipe-spec : {M : Type 1} → statement M
+other-pipe-spec =
+    tie.close (tie.spec cross-requires unit-requires cross-requires-2 noted-requires returns)

@@ -1,0 +1,29 @@
+-- Which notes suffice of a derivative: its quotient is finite only where all before it is. Assumes nothing.
+use mathlib.Core.Path.{_≡_, refl}
+use lib.Ieee.{Float}
+use Rattle.checked.specs.Checked.{Checked, first, nine}
+use Rattle.checked.specs.Laws.{rules as checked-rules}
+use Rattle.directions.specs.Laws.{rules as directions-rules}
+use Rattle.vectors.specs.declared.Vec3.{Vec3}
+use Rattle.vectors.specs.Vectors.{nines}
+use Rattle.vectors.specs.Laws.{rules as vectors-rules}
+use Rattle.meets.specs.declared.quadratic.Pipe.{Pipe}
+use Rattle.meets.specs.declared.quadratic.Reached.{Reached}
+use Rattle.meets.specs.declared.generatrix.Speed.{Speed}
+use Rattle.meets.specs.Reaches.{speedC, bendC, aheadC}
+
+ruleset all = (checked-rules, vectors-rules, directions-rules)
+
+pub ahead-nine : (p a : Vec3) (t : Float) → aheadC p a t .refusal ≡ nines (aheadC p a t .value)
+unfolding aheadC
+ahead-nine p a t = simp all
+
+pub speed-refusal : (p : Pipe) (h : Reached) → speedC p h .refusal ≡ nine (speedC p h .value .t1)
+unfolding speedC
+speed-refusal p h = simp all
+
+pub bend-refusal : (p : Pipe) (h : Reached) (v : Speed) → bendC p h v .refusal ≡ nine (bendC p h v .value .t2)
+unfolding bendC
+bend-refusal p h v = simp all
+
+pub ruleset rules = (ahead-nine)

@@ -1,2 +1,0 @@
-pub mod Normals
-pub mod Laws

@@ -1,0 +1,7 @@
+pub mod Bounds
+pub mod BracketsLaws
+pub mod CurveBoxes
+pub mod MeetBoxes
+pub mod MeetBoxesLaws
+pub mod SpaceBoxesLaws
+pub mod Windows

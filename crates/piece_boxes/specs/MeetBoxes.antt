@@ -1,0 +1,69 @@
+-- `Rolled::meet_box`: all samples first, then the windows between them.
+use Prim.Native.Nat.{ℕ, _+_, _<_}
+use mathlib.Core.Path.{_≡_}
+use mathlib.Core.Bool.{Bool, true, false, cond, _||_}
+use mathlib.Core.List.{List}
+use lib.Dec.{eqb}
+use lib.ListN.{getD}
+use lib.Ieee.{Float, nan, inf}
+use Rattle.checked.specs.Checked.{Checked, first, _>>=_, given}
+use Rattle.vectors.specs.declared.Vec2.{Vec2}
+use Rattle.vectors.specs.Vectors.{plane}
+use Rattle.checked.specs.Loops.{foldC}
+use Rattle.piece_curves.specs.declared.meet_curves.Course.{Course}
+use Rattle.piece_curves.specs.Courses.{slopeUC, slopeVC, pointC}
+use Rattle.piece_boxes.specs.declared.brackets.FlatBox.{FlatBox}
+use Rattle.piece_boxes.specs.Windows.{placeC, widened, windowC}
+
+-- the derivatives at place k
+unfoldable pub sampleC : Course → ℕ → Checked Vec2
+sampleC c k = do
+  t ← placeC k
+  x ← slopeUC c t
+  y ← slopeVC c t
+  given (plane x y)
+
+-- the first and the last place
+unfoldable pub isEnd : ℕ → Bool
+isEnd k = eqb k 0 || eqb k 64
+
+-- there the point is read too
+unfoldable pub endC : Course → ℕ → FlatBox → Checked FlatBox
+endC c k b =
+    cond
+    (isEnd k)
+    (do
+      t ← placeC k
+      p ← pointC c t
+      given (widened b p))
+    (given b)
+
+unfoldable pub stepC : Course → ℕ → FlatBox → Checked FlatBox
+stepC c k b = do
+  d ← sampleC c k
+  endC c k b
+
+-- the infinities from which the box starts
+abbrev pub empty : FlatBox
+empty = record { low = plane (inf false) (inf false); high = plane (inf true) (inf true) }
+
+-- all samples, and the box of the two ends
+unfoldable pub startC : Course → Checked FlatBox
+startC c = foldC 65 (stepC c) empty
+
+-- between the places k and k + 1: where u turns, then where v does
+unfoldable pub spanC : Course → ℕ → FlatBox → Checked FlatBox
+spanC c k b = do
+  a ← windowC c false k (sampleC c k .value .x) (sampleC c (k + 1) .value .x) b
+  windowC c true k (sampleC c k .value .y) (sampleC c (k + 1) .value .y) a
+
+-- a refusal of a sample comes before any of a halving
+unfoldable pub boxC : Course → Checked FlatBox
+boxC c = do
+  b ← startC c
+  foldC 64 (spanC c) b
+
+-- ---- the code's rows hold the derivatives at the first n places
+pub record Stored (c : Course) (n : ℕ) (us vs : List Float) : Type 0 where
+  pub along : (j : ℕ) → j < n → getD us j nan ≡ sampleC c j .value .x
+  pub upright : (j : ℕ) → j < n → getD vs j nan ≡ sampleC c j .value .y

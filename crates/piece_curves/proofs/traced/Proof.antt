@@ -1,0 +1,31 @@
+use borrow.Author.Needs.{needs}
+use Rattle.piece_curves.specs.Runs.{tracedC}
+use Rattle.piece_curves.proofs.traced.Statement.{statement}
+use Rattle.piece_curves.proofs.traced.Tie as tie
+
+enum-known-t : tie.Need-enum-known-t
+enum-known-t c = search needs
+
+enum-known-t-2 : tie.Need-enum-known-t-2
+enum-known-t-2 c = search needs
+
+meet-way-requires : tie.Need-meet-way-requires
+meet-way-requires c κs = search needs
+
+returns : tie.Need-returns
+unfolding tracedC
+returns c = (simp (c .before .t .given .1), simp (c .before .t .given .1))
+
+returns-2 : tie.Need-returns-2
+unfolding tracedC
+returns-2 c = (simp (c .meet-way .ensures .0, c .before .before .t2 .given .1), simp (c .meet-way .ensures .1, c .before .before .t2 .given .1))
+
+pub traced-spec : {M : Type 1} → statement M
+traced-spec =
+    tie.close
+    (tie.spec
+    enum-known-t
+    enum-known-t-2
+    meet-way-requires
+    returns
+    returns-2)

@@ -1,0 +1,27 @@
+use borrow.Author.Needs.{needs}
+use Rattle.piece_curves.specs.Runs.{untraced}
+use Rattle.piece_curves.proofs.untraced.Statement.{statement}
+use Rattle.piece_curves.proofs.untraced.Tie as tie
+
+enum-told : tie.Need-enum-told
+enum-told c = search needs
+
+enum-known-arc : tie.Need-enum-known-arc
+enum-known-arc c = search needs
+
+returns : tie.Need-returns
+unfolding untraced
+returns c = simp (c .enum-told .given .1)
+
+returns-2 : tie.Need-returns-2
+unfolding untraced
+returns-2 c = simp (c .before .arc .given .1)
+
+pub untraced-spec : {M : Type 1} → statement M
+untraced-spec =
+    tie.close
+    (tie.spec
+    enum-told
+    enum-known-arc
+    returns
+    returns-2)

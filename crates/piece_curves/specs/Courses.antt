@@ -1,0 +1,115 @@
+-- `Rolled::meet_at`: a piece that follows a meet, cut by what its callers read.
+use lib.Ieee.{Float, binary64}
+use Rattle.checked.specs.Checked.{Checked, first, _>>=_, given, finite, num, _⊕_, _⊖_, _⊗_, _⊘_}
+use Rattle.checked.specs.Numbers.{one, tau}
+use Rattle.profile_arcs.specs.Angles.{atan2C}
+use Rattle.rounding.specs.Whole.{round-away}
+use Rattle.vectors.specs.declared.Vec2.{Vec2}
+use Rattle.vectors.specs.declared.Vec3.{Vec3}
+use Rattle.vectors.specs.Vectors.{plane}
+use Rattle.meets.specs.declared.quadratic.Reached.{Reached}
+use Rattle.meets.specs.Pipes.{reachC}
+use Rattle.meets.specs.Reaches as reaches
+use Rattle.meets.specs.declared.Turn.{Turn}
+use Rattle.meets.specs.declared.Turn.the-variants as turn
+use Rattle.piece_curves.specs.declared.meet_curves.Course.{Course}
+use Rattle.piece_curves.specs.declared.meet_curves.Place.{Place}
+
+-- how fast the angle runs
+abbrev pub rateBy : Turn → Course → Checked Float
+rateBy turn.Without c = (num (c .to) ⊖ num (c .from)) ⊘ num (c .neutral)
+rateBy (turn.Angles f g) c = num g ⊖ num f
+
+unfoldable pub rateC : Course → Checked Float
+rateC c = rateBy (c .turn) c
+
+-- the angle at t
+abbrev pub angleBy : Turn → Course → Float → Checked Float
+angleBy turn.Without c t = (num (c .from) ⊕ (num (c .to) ⊖ num (c .from)) ⊗ num t) ⊘ num (c .neutral)
+angleBy (turn.Angles f g) c t = num f ⊗ (num one ⊖ num t) ⊕ num g ⊗ num t
+
+unfoldable pub angleC : Course → Float → Checked Float
+angleC c t = angleBy (c .turn) c t
+
+-- the generatrix at t, up to the cylinder met
+unfoldable pub reachedC : Course → Float → Checked Reached
+reachedC c t = do
+  phi ← angleC c t
+  reachC (c .pipe) phi
+
+-- where it ends, in space
+unfoldable pub spotC : Course → Float → Checked Vec3
+spotC c t = do
+  phi ← angleC c t
+  reaches.pointC (c .pipe) phi
+
+-- ---- the first derivative in t
+-- of v
+unfoldable pub slopeVC : Course → Float → Checked Float
+slopeVC c t = do
+  k ← rateC c
+  phi ← angleC c t
+  h ← reachC (c .pipe) phi
+  v ← reaches.speedC (c .pipe) h
+  (num (v .d1 .z) ⊕ num (c .pipe .a .z) ⊗ num (v .t1)) ⊗ num k
+
+-- of u along a hole: the angle about the axis of the point's x and y
+unfoldable pub aroundC : Course → Float → Checked Float
+aroundC c t = do
+  k ← rateC c
+  phi ← angleC c t
+  h ← reachC (c .pipe) phi
+  v ← reaches.speedC (c .pipe) h
+  qx ← num (h .p0 .x) ⊕ num (c .pipe .a .x) ⊗ num (h .t)
+  qy ← num (h .p0 .y) ⊕ num (c .pipe .a .y) ⊗ num (h .t)
+  q1x ← num (v .d1 .x) ⊕ num (c .pipe .a .x) ⊗ num (v .t1)
+  q1y ← num (v .d1 .y) ⊕ num (c .pipe .a .y) ⊗ num (v .t1)
+  r2 ← num qx ⊗ num qx ⊕ num qy ⊗ num qy
+  th ← (num qx ⊗ num q1y ⊖ num qy ⊗ num q1x) ⊘ num r2
+  num (c .neutral) ⊗ num th ⊗ num k
+
+-- of u
+abbrev pub slopeUBy : Turn → Course → Float → Checked Float
+slopeUBy turn.Without c t = num (c .to) ⊖ num (c .from)
+slopeUBy (turn.Angles f g) c t = aroundC c t
+
+unfoldable pub slopeUC : Course → Float → Checked Float
+slopeUC c t = slopeUBy (c .turn) c t
+
+-- ---- the point at t
+unfoldable pub ownPointC : Course → Float → Checked Vec2
+ownPointC c t = do
+  u ← num (c .from) ⊕ (num (c .to) ⊖ num (c .from)) ⊗ num t
+  phi ← num u ⊘ num (c .neutral)
+  z ← reaches.heightC (c .pipe) phi
+  given (plane u z)
+
+-- u of a point in space, within half a turn of the piece's first
+unfoldable pub nearC : Course → Vec3 → Checked Float
+nearC c q = do
+  turn' ← num (c .neutral) ⊗ num tau
+  u ← num (c .neutral) ⊗ atan2C (num (q .y)) (num (q .x))
+  turns ← (num (c .from) ⊖ num u) ⊘ num turn'
+  k ← finite (round-away binary64 turns)
+  num u ⊕ num turn' ⊗ num k
+
+unfoldable pub holePointC : Course → Float → Checked Vec2
+holePointC c t = do
+  q ← spotC c t
+  u ← nearC c q
+  given (plane u (q .z))
+
+abbrev pub pointBy : Turn → Course → Float → Checked Vec2
+pointBy turn.Without c t = ownPointC c t
+pointBy (turn.Angles f g) c t = holePointC c t
+
+unfoldable pub pointC : Course → Float → Checked Vec2
+pointC c t = pointBy (c .turn) c t
+
+-- ---- the point and its derivative. The rate is tried before the sine, as the Rust's order has it; all after the sine is refused by one number.
+unfoldable pub atC : Course → Float → Checked Place
+atC c t = do
+  du ← slopeUC c t
+  dv ← slopeVC c t
+  p ← pointC c t
+  given (record { p = p; d = plane du dv })

@@ -1,0 +1,6 @@
+pub mod Courses
+pub mod MeetCurvesLaws
+pub mod Points
+pub mod PointsLaws
+pub mod Runs
+pub mod Spots

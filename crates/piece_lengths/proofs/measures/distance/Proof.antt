@@ -1,0 +1,33 @@
+use borrow.Author.Needs.{needs}
+use Rattle.piece_lengths.specs.Measures.{distanceC}
+use Rattle.checked.specs.Laws.{first-assoc, zero-first}
+use Rattle.piece_lengths.specs.MeasuresLaws.{distance-refusal}
+use mathlib.Core.Path.{sym, _∙_}
+use Rattle.piece_lengths.proofs.measures.distance.Statement.{statement}
+use Rattle.piece_lengths.proofs.measures.distance.Tie as tie
+
+hypot-requires : tie.Need-hypot-requires
+hypot-requires c κs = search needs
+
+note-requires : tie.Need-note-requires
+note-requires c κs = search needs
+
+note-requires-2 : tie.Need-note-requires-2
+note-requires-2 c κs = search needs
+
+note-requires-3 : tie.Need-note-requires-3
+note-requires-3 c κs = search needs
+
+returns : tie.Need-returns
+unfolding distanceC
+returns c = ((simp (c .note3 .ensures, c .before .note2 .ensures, c .before .before .note .ensures, c .before .before .before .hypot .ensures, first-assoc, zero-first)) ∙ sym (distance-refusal (c .before .before .before .before .before .before .before .before .args .a) (c .before .before .before .before .before .before .before .before .args .b)), simp (c .before .before .before .hypot .ensures))
+
+pub distance-spec : {M : Type 1} → statement M
+distance-spec =
+    tie.close
+    (tie.spec
+    hypot-requires
+    note-requires
+    note-requires-2
+    note-requires-3
+    returns)

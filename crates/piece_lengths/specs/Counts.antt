@@ -1,0 +1,101 @@
+-- Into how many pieces or chords a piece of a development is cut: `Rolled::quadrature_pieces`,
+-- `Rolled::chords`, `Rolled::polyline`.
+use Prim.Native.Nat.{ℕ}
+use lib.Ieee.{Float}
+use Rattle.checked.specs.Checked.{Checked, first, _>>=_, given, finite, num, _⊕_, _⊖_, _⊗_, _⊘_}
+use Rattle.checked.specs.Numbers.{literal, float, zero, one, two, tau, quarterPi}
+use Rattle.float_bits.specs.Words.{fabs}
+use Rattle.rounding.specs.Computations.{sqrtC}
+use Rattle.libm.specs.Computations.{hypotC}
+use Rattle.order.specs.Least.{greatest}
+use Rattle.checked.specs.Loops.{foldC}
+use Rattle.chord_counts.specs.Counts.{MOST, countC}
+use Rattle.chord_counts.specs.Chords.{most, perTurnC}
+use Rattle.vectors.specs.declared.Vec2.{Vec2}
+use Rattle.waves.specs.declared.Wave.{Wave}
+use Rattle.piece_curves.specs.declared.meet_curves.Course.{Course}
+use Rattle.piece_curves.specs.declared.Way.{Way}
+use Rattle.piece_curves.specs.declared.Way.the-variants as way
+use Rattle.piece_curves.specs.declared.Run.{Run}
+use Rattle.piece_lengths.specs.Bends.{meetC}
+use Rattle.piece_lengths.specs.Measures.{measureC}
+
+-- ---- at most 45° each, in the development and about the axis
+unfoldable pub quadratureC : Run → Checked ℕ
+quadratureC r = do
+  m ← measureC r
+  bend ← num (m .length) ⊘ num (r .neutral)
+  x ← num (greatest (m .turn) bend) ⊘ num quarterPi
+  countC x one MOST
+
+-- ---- chords for drawing at a distance from the axis
+-- of a full turn of the piece's own: a trace takes the most, an arc what its radius asks for
+abbrev pub ownBy : Way → Float → Float → Checked Float
+ownBy way.Straight rho chord = perTurnC rho chord
+ownBy (way.Arc a) rho chord = perTurnC rho chord
+ownBy (way.Wave w) rho chord = num most
+ownBy (way.Meet c) rho chord = num most
+
+unfoldable pub ownTurnC : Way → Float → Float → Checked Float
+ownTurnC w rho chord = ownBy w rho chord
+
+unfoldable pub chordsC : Run → Float → Float → Checked ℕ
+chordsC r radius chord = do
+  m ← measureC r
+  own ← num (m .turn) ⊘ num tau ⊗ ownTurnC (r .way) (m .radius) chord
+  bend ← num (m .length) ⊘ num (r .neutral) ⊘ num tau ⊗ perTurnC radius chord
+  countC (greatest own bend) one MOST
+
+-- ---- chords of a polyline through the piece in its development, each at most `deviation` off it
+-- 8 and 256
+abbrev pub eight : Float
+eight = literal 0x4020_0000_0000_0000
+
+abbrev pub samples : Float
+samples = literal 0x4070_0000_0000_0000
+
+-- a wave's length where it is steepest, over the width du
+unfoldable pub steepC : Float → Float → Float → Checked Float
+steepC du amp n = do
+  x ← num amp ⊘ num n
+  num (fabs du) ⊗ sqrtC (num one ⊕ num x ⊗ num x)
+
+-- a wave bends at most its amplitude over the neutral radius squared
+unfoldable pub offC : Float → Float → Float → Float → Checked Float
+offC length amp n deviation = num length ⊗ sqrtC (num amp ⊘ (num n ⊗ num n) ⊘ (num eight ⊗ num deviation))
+
+unfoldable pub waveLineC : Wave → Vec2 → Vec2 → Float → Float → Checked ℕ
+waveLineC w from to n deviation = do
+  du ← num (to .x) ⊖ num (from .x)
+  amp ← hypotC (num (w .b)) (num (w .c))
+  length ← steepC du amp n
+  q ← offC length amp n deviation
+  countC q two MOST
+
+-- the greater of a bend and that of the sample k
+unfoldable pub sampleC : Course → ℕ → Float → Checked Float
+sampleC c k a = do
+  t ← num (float k) ⊘ num samples
+  d ← meetC c t
+  h ← hypotC (num (d .x)) (num (d .y))
+  given (greatest a h)
+
+-- a meet by the greatest of 257 second derivatives
+unfoldable pub bendC : Course → Checked Float
+bendC c = foldC 257 (sampleC c) zero
+
+unfoldable pub meetLineC : Course → Float → Checked ℕ
+meetLineC c deviation = do
+  bend ← bendC c
+  q ← sqrtC (num bend ⊘ (num eight ⊗ num deviation))
+  countC q two MOST
+
+-- 1 without a trace, at least 2 with one
+abbrev pub lineBy : Way → Run → Float → Checked ℕ
+lineBy way.Straight r deviation = given 1
+lineBy (way.Arc a) r deviation = given 1
+lineBy (way.Wave w) r deviation = waveLineC w (r .from) (r .to) (r .neutral) deviation
+lineBy (way.Meet c) r deviation = meetLineC c deviation
+
+unfoldable pub polylineC : Run → Float → Checked ℕ
+polylineC r deviation = lineBy (r .way) r deviation

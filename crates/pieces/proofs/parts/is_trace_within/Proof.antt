@@ -1,0 +1,31 @@
+use borrow.Author.Needs.{needs}
+use Rattle.pieces.specs.Tests.{followedWithin}
+use Rattle.pieces.proofs.parts.is_trace_within.Statement.{statement}
+use Rattle.pieces.proofs.parts.is_trace_within.Tie as tie
+
+enum-told : tie.Need-enum-told
+enum-told c = search needs
+
+enum-known-trace : tie.Need-enum-known-trace
+enum-known-trace c = search needs
+
+is-within-limit-requires : tie.Need-is-within-limit-requires
+is-within-limit-requires c κs = search needs
+
+returns : tie.Need-returns
+unfolding followedWithin
+returns c = simp (c .enum-told .given .1)
+
+returns-2 : tie.Need-returns-2
+unfolding followedWithin
+returns-2 c = simp (c .is-within-limit .ensures, c .before .before .trace .given .1)
+
+pub is-trace-within-spec : {M : Type 1} → statement M
+is-trace-within-spec =
+    tie.close
+    (tie.spec
+    enum-told
+    enum-known-trace
+    is-within-limit-requires
+    returns
+    returns-2)

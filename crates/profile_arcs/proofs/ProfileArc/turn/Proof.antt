@@ -1,0 +1,25 @@
+use borrow.Author.Needs.{needs}
+use Rattle.profile_arcs.specs.Profiles.{turnDue}
+use mathlib.Core.Path.{sym, _∙_}
+use Rattle.profile_arcs.proofs.ProfileArc.turn.Statement.{statement}
+use Rattle.profile_arcs.proofs.ProfileArc.turn.Tie as tie
+
+is-handed-requires : tie.Need-is-handed-requires
+is-handed-requires c κs = search needs
+
+turn-requires : tie.Need-turn-requires
+turn-requires c κs = search needs
+
+settle-requires : tie.Need-settle-requires
+settle-requires c κs = search needs
+
+returns : tie.Need-returns
+unfolding turnDue
+returns c = simp (c .settle .ensures, c .before .turn .ensures .0, c .before .turn .ensures .1, sym (c .before .before .before .is-handed .ensures) ∙ c .before .before .if1 .taken)
+
+returns-2 : tie.Need-returns-2
+unfolding turnDue
+returns-2 c = simp (sym (c .before .is-handed .ensures) ∙ c .if1 .left)
+
+pub turn-spec : {M : Type 1} → statement M
+turn-spec = tie.close (tie.spec is-handed-requires turn-requires settle-requires returns returns-2)

@@ -1,0 +1,4 @@
+pub mod Angles
+pub mod AnglesLaws
+pub mod Laws
+pub mod Profiles

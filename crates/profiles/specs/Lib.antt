@@ -1,2 +1,0 @@
-pub mod Profiles
-pub mod Laws

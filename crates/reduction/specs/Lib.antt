@@ -1,2 +1,0 @@
-pub mod Reduction
-pub mod Laws

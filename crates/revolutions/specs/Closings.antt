@@ -1,0 +1,31 @@
+-- Closing a face: what its running sums add to the sums of a body.
+use mathlib.Core.Bool.{Bool, cond, _&&_}
+use lib.Ieee.{Float, neg}
+use Rattle.checked.specs.Refusals.{OUT-OF-RANGE, BAD-BOX-OR-SUMS}
+use Rattle.checked.specs.Checked.{Checked, first, _>>=_, given, num, _⊕_, _⊗_, Due, answered, unless}
+use Rattle.checked.specs.Numbers.{one}
+use Rattle.vectors.specs.Vectors.{vec, _⊞_}
+use Rattle.cones.specs.declared.Cone.{Cone}
+use Rattle.cones.specs.Entries.{coneWithin}
+use Rattle.integrals.specs.declared.Integrals.{Integrals}
+use Rattle.integrals.specs.Sums.{finiteSums}
+
+-- the sign of a face's area: 1 where the body lies inside, else -1
+unfoldable pub sigma : Bool → Float
+sigma convex = cond convex one (neg one)
+
+-- what is added to the sums of a body
+unfoldable pub closeC : Integrals → Bool → Integrals → Checked Integrals
+closeC acc convex s = do
+  area ← num (acc .area) ⊕ num (sigma convex) ⊗ num (s .area)
+  volume ← num (acc .«six_v») ⊕ num (s .«six_v»)
+  moment ← vec (acc .moment) ⊞ vec (s .moment)
+  vector ← vec (acc .«area_vector») ⊞ vec (s .«area_vector»)
+  given (record { «six_v» = volume; moment = moment; area = area; «area_vector» = vector })
+
+-- what closing is due: the cone is tried, then both sums
+unfoldable pub closeDue : Cone → Integrals → Integrals → Due Integrals
+closeDue cone s acc =
+    unless OUT-OF-RANGE (coneWithin cone)
+    (unless BAD-BOX-OR-SUMS (finiteSums acc && finiteSums s)
+    (answered (closeC acc (cone .convex) s)))

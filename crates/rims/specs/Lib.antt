@@ -1,2 +1,0 @@
-pub mod Rims
-pub mod Laws

@@ -1,4 +1,0 @@
-pub mod Roots
-pub mod Computations
-pub mod Laws
-pub mod Values

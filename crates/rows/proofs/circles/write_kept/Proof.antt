@@ -1,0 +1,62 @@
+use mathlib.Core.Path.{_≡_, refl, sym, _∙_}
+use borrow.Author.Needs.{needs}
+use lib.ListN.{length}
+use Rattle.checked.specs.Checked.{Checked, first}
+use Rattle.rows.specs.Rows.{upTo}
+use Rattle.rows.specs.Rims.{rimAtC}
+use Rattle.rows.specs.Laws.{flat-length, flat-part, points-due, points-refused}
+use Rattle.rows.proofs.circles.write_kept.Statement.{statement}
+use Rattle.rows.proofs.circles.write_kept.Tie as tie
+
+slice-aggregate-work-out : tie.Need-slice-aggregate-work-out
+slice-aggregate-work-out c = search needs
+
+work-out-requires : tie.Need-work-out-requires
+work-out-requires c κs = search needs
+
+earlier-requires : tie.Need-earlier-requires
+earlier-requires c κs = search needs
+
+slice-aggregate-copy-part : tie.Need-slice-aggregate-copy-part
+slice-aggregate-copy-part c = search needs
+
+mul-copy-part : tie.Need-mul-copy-part
+mul-copy-part c = search needs
+
+copy-part-requires : tie.Need-copy-part-requires
+copy-part-requires c κs = search needs
+
+same-length : tie.Need-same-length
+same-length c = search needs
+
+returns : tie.Need-returns
+returns c =
+    let start = c .before .before .before .before .before .before .before .before .before .before .before .args in
+    let f = rimAtC (start .rim) (start .turn) (start .n) in
+    let none = c .before .before .before .before .before .if1 .taken in
+    let points = c .before .before .before .before .before .before .before .before .work-out .ensures in
+    let r : c .before .before .before .before .before .before .earlier .result ≡ first (start .before) (upTo f (start .m) .refusal) = simp (c .before .before .before .before .before .before .earlier .ensures, points .0) in
+    let due = points-due (start .before) f (start .m) (sym r ∙ none) in
+    (simp (due, none), simp (due, c .before .before .copy-part .ensures, points .1, flat-part, flat-length))
+
+returns-2 : tie.Need-returns-2
+returns-2 c =
+    let start = c .before .before .before .before .before .before .args in
+    let f = rimAtC (start .rim) (start .turn) (start .n) in
+    let r : c .before .earlier .result ≡ first (start .before) (upTo f (start .m) .refusal) = simp (c .before .earlier .ensures, c .before .before .before .work-out .ensures .0) in
+    let due = points-refused (start .before) f (start .m) (λ z. c .if1 .left (r ∙ z)) in
+    (simp (due, r), simp due)
+
+pub write-kept-spec : {M : Type 1} → statement M
+write-kept-spec =
+    tie.close
+    (tie.spec
+    slice-aggregate-work-out
+    work-out-requires
+    earlier-requires
+    slice-aggregate-copy-part
+    mul-copy-part
+    copy-part-requires
+    same-length
+    returns
+    returns-2)

@@ -1,2 +1,0 @@
-pub mod Bends
-pub mod Laws

@@ -1,2 +1,0 @@
-pub mod Spokes
-pub mod Laws

@@ -1,0 +1,130 @@
+// The integrals of the wall of a cut: the function `wall` of the Rust, whose name differs only in
+// the case of a letter from that of a surface's case. What a program may call is here, the formulas
+// are in `formula`.
+ghost use mathlib.Core.Path.{_≡_};
+ghost use Rattle.integrals.specs.Sums.{addedDue, outcome, Lent};
+ghost use Rattle.walls.specs.Entries.{wallWithin, wallTests, wallDue};
+use checked::face_tests::tried;
+use developments::Development;
+use integrals::Added;
+use integrals::Integrals;
+use integrals::Outcome;
+use integrals::settle;
+use piece_curves::PieceArc;
+use piece_curves::PieceTrace;
+use pieces::parts::are_both;
+use pieces::parts::is_arc_within;
+use pieces::parts::is_trace_within;
+use vectors::Vec2;
+use vectors::Vec3;
+use vectors::is_within2;
+use vectors::is_within3;
+
+pub mod formula;
+
+// Every number handed in but for the sums.
+fn is_wall_within(
+    dev: Development,
+    from: Vec2,
+    to: Vec2,
+    arc: PieceArc,
+    trace: PieceTrace,
+    r0: f64,
+    r1: f64,
+    o: Vec3,
+) -> bool
+    ensures { λ r. ⌜ r ≡ wallWithin dev from to arc trace r0 r1 o ⌝ }
+{
+    dev.is_within_limit()
+        & (is_within2(from)
+            & (is_within2(to)
+                & (is_arc_within(arc)
+                    & (is_trace_within(trace)
+                        & (is_within2(Vec2 { x: r0, y: r1 }) & is_within3(o))))))
+}
+
+// The number of the test that fails first; 0 is none.
+fn tried_wall(
+    acc: Integrals,
+    dev: Development,
+    from: Vec2,
+    to: Vec2,
+    arc: PieceArc,
+    trace: PieceTrace,
+    r0: f64,
+    r1: f64,
+    o: Vec3,
+) -> u8
+    ensures { λ r. ⌜ r ≡ wallTests dev from to arc trace r0 r1 o acc ⌝ }
+{
+    tried(
+        is_wall_within(dev, from, to, arc, trace, r0, r1, o),
+        0.0 < dev.neutral,
+        !are_both(arc, trace),
+        acc.is_finite(),
+        true,
+    )
+}
+
+// The sums of a body with those of the wall over a piece added, from r0 to r1 from the axis of its
+// development; volumes are measured from o.
+pub fn with_cut_wall(
+    acc: Integrals,
+    dev: Development,
+    from: Vec2,
+    to: Vec2,
+    arc: PieceArc,
+    trace: PieceTrace,
+    r0: f64,
+    r1: f64,
+    o: Vec3,
+) -> Added
+    ensures { λ r. ⌜ addedDue r ≡ wallDue dev from to arc trace r0 r1 o acc ⌝ }
+{
+    let t = tried_wall(acc, dev, from, to, arc, trace, r0, r1, o);
+    if t == 0 {
+        settle(formula::over(dev, from, to, arc, trace, r0, r1, o, acc))
+    } else {
+        Added::Refused(t)
+    }
+}
+
+// What is left of sums after the call, and the number that it answers.
+fn outcome(
+    acc: Integrals,
+    dev: Development,
+    from: Vec2,
+    to: Vec2,
+    arc: PieceArc,
+    trace: PieceTrace,
+    r0: f64,
+    r1: f64,
+    o: Vec3,
+) -> Outcome
+    ensures { λ r. ⌜ r ≡ outcome acc (wallDue dev from to arc trace r0 r1 o acc) ⌝ }
+{
+    integrals::after(
+        acc,
+        with_cut_wall(acc, dev, from, to, arc, trace, r0, r1, o),
+    )
+}
+
+// The lent sums with those of the wall added: 0 where they are, else the refusal's number, and the
+// lent sums are as they were.
+pub fn cut_wall(
+    acc: &mut Integrals,
+    dev: Development,
+    from: Vec2,
+    to: Vec2,
+    arc: PieceArc,
+    trace: PieceTrace,
+    r0: f64,
+    r1: f64,
+    o: Vec3,
+) -> u8
+    ensures { λ r. ⌜ Lent (wallDue dev from to arc trace r0 r1 o) (now (acc .entry)) r (now (acc .exit)) ⌝ }
+{
+    let end = outcome(*acc, dev, from, to, arc, trace, r0, r1, o);
+    *acc = end.sums;
+    end.number
+}

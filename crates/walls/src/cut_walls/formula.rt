@@ -1,0 +1,126 @@
+// The sums of the wall over a piece, on numbers of any size: the loops over its stretches and their
+// stations.
+ghost use mathlib.Core.Path.{_≡_};
+ghost use Rattle.checked.specs.Checked.{first};
+ghost use Rattle.integrals.specs.Gauss.{stretchAtC, alongC};
+ghost use Rattle.walls.specs.CutWalls.{stationAtC, wallC};
+use crate::Strip;
+use crate::station;
+use crate::strip_of;
+use checked::earlier;
+use checked::note;
+use developments::Development;
+use integrals::CheckedIntegrals;
+use integrals::Integrals;
+use integrals::WEIGHTS;
+use integrals::lies;
+use integrals::lies_noted;
+use piece_curves::PieceArc;
+use piece_curves::PieceTrace;
+use piece_curves::Run;
+use piece_curves::points::at;
+use piece_curves::run_of;
+use piece_lengths::counts::quadrature_pieces;
+use vectors::Vec2;
+use vectors::Vec3;
+
+// The sums after all radii at t.
+fn station_at(v: Strip, r: Run, h: f64, wt: f64, t: f64, s: CheckedIntegrals) -> CheckedIntegrals
+    ensures refusal { λ a. ⌜ a .refusal ≡ first (s .refusal) (stationAtC v r h wt t (s .value) .refusal) ⌝ }
+    ensures value { λ a. ⌜ a .value ≡ stationAtC v r h wt t (s .value) .value ⌝ }
+{
+    let q = at(r, t);
+    let sums = s.value;
+    station(
+        v,
+        q.value.p,
+        q.value.d,
+        h,
+        wt,
+        CheckedIntegrals {
+            value: sums,
+            refusal: earlier(s.refusal, q.refusal),
+        },
+    )
+}
+
+// The stretch i, of length h.
+fn stretch(v: Strip, r: Run, h: f64, i: u16, s: CheckedIntegrals) -> CheckedIntegrals
+    ensures refusal { λ a. ⌜ a .refusal ≡ first (s .refusal) (stretchAtC (stationAtC v r) h i (s .value) .refusal) ⌝ }
+    ensures value { λ a. ⌜ a .value ≡ stretchAtC (stationAtC v r) h i (s .value) .value ⌝ }
+{
+    let mid = h * ((i as f64) + 0.5);
+    let start = s.value;
+    let mut a = CheckedIntegrals {
+        value: start,
+        refusal: note(s.refusal, mid),
+    };
+    let mut j: usize = 0;
+    while j < 8 {
+        let sums = a.value;
+        let n = lies_noted(a.refusal, h, mid, j);
+        a = station_at(
+            v,
+            r,
+            h,
+            WEIGHTS[j / 2],
+            lies(h, mid, j),
+            CheckedIntegrals {
+                value: sums,
+                refusal: n,
+            },
+        );
+        j += 1;
+    }
+    a
+}
+
+// All n stretches of the wall.
+fn along(v: Strip, r: Run, n: u16, s: CheckedIntegrals) -> CheckedIntegrals
+    ensures refusal { λ a. ⌜ a .refusal ≡ first (s .refusal) (alongC (stationAtC v r) n (s .value) .refusal) ⌝ }
+    ensures value { λ a. ⌜ a .value ≡ alongC (stationAtC v r) n (s .value) .value ⌝ }
+{
+    let h = 1.0 / (n as f64);
+    let start = s.value;
+    let mut a = CheckedIntegrals {
+        value: start,
+        refusal: note(s.refusal, h),
+    };
+    let mut i: u16 = 0;
+    while i < n {
+        a = stretch(v, r, h, i, a);
+        i += 1;
+    }
+    a
+}
+
+// The sums of a body with those of the wall over a piece added, from r0 to r1 from the axis.
+pub fn over(
+    dev: Development,
+    from: Vec2,
+    to: Vec2,
+    arc: PieceArc,
+    trace: PieceTrace,
+    r0: f64,
+    r1: f64,
+    o: Vec3,
+    s: Integrals,
+) -> CheckedIntegrals
+    ensures refusal { λ a. ⌜ a .refusal ≡ wallC dev from to arc trace r0 r1 o s .refusal ⌝ }
+    ensures value { λ a. ⌜ a .value ≡ wallC dev from to arc trace r0 r1 o s .value ⌝ }
+{
+    let x = run_of(from, to, dev.neutral, arc, trace);
+    let r = x.value;
+    let n = quadrature_pieces(r);
+    let y = strip_of(dev.origin, dev.axis, dev.start, dev.neutral, r0, r1, o);
+    let v = y.value;
+    along(
+        v,
+        r,
+        n.value,
+        CheckedIntegrals {
+            value: s,
+            refusal: earlier(earlier(x.refusal, n.refusal), y.refusal),
+        },
+    )
+}

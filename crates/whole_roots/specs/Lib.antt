@@ -1,2 +1,0 @@
-pub mod NearRoot
-pub mod Squares
