@@ -7,20 +7,20 @@ use crate::draw::{Draw, SPECIAL};
 use crate::entry::{Class, Entry, at, entry, out};
 
 unsafe extern "C" {
-    safe fn jr_turn(centre: &[f64; 2], ccw: bool, a: &[f64; 2], b: &[f64; 2], out: &mut [f64; 1]) -> u32;
+    safe fn jr_profile_arc_turn(centre: &[f64; 2], ccw: bool, a: &[f64; 2], b: &[f64; 2], out: &mut [f64; 1]) -> u32;
     safe fn jr_unit(v: &[f64; 3], out: &mut [f64; 3]) -> u32;
     safe fn jr_per_turn(radius: f64, chord: f64, out: &mut [f64; 1]) -> u32;
-    safe fn jr_reversed(arc: &[f64; 7], out: &mut [f64; 7]) -> u32;
-    safe fn jr_sweep(arc: &[f64; 7], from: &[f64; 3], to: &[f64; 3], out: &mut [f64; 1]) -> u32;
-    safe fn jr_at(arc: &[f64; 7], from: &[f64; 3], t: f64, out: &mut [f64; 3]) -> u32;
+    safe fn jr_arc_reversed(arc: &[f64; 7], out: &mut [f64; 7]) -> u32;
+    safe fn jr_arc_sweep(arc: &[f64; 7], from: &[f64; 3], to: &[f64; 3], out: &mut [f64; 1]) -> u32;
+    safe fn jr_arc_at(arc: &[f64; 7], from: &[f64; 3], t: f64, out: &mut [f64; 3]) -> u32;
     // A row is lent as its start and its length; `row` below is always of that length.
-    safe fn jr_inner_points(arc: &[f64; 7], from: &[f64; 3], to: &[f64; 3], chord: f64, row: *mut f64, length: usize, written: &mut [u64; 1]) -> u32;
-    safe fn jr_extend_bounds(arc: &[f64; 7], from: &[f64; 3], to: &[f64; 3], corners: &mut [f64; 6]) -> u32;
+    safe fn jr_arc_inner_points(arc: &[f64; 7], from: &[f64; 3], to: &[f64; 3], chord: f64, row: *mut f64, length: usize, written: &mut [u64; 1]) -> u32;
+    safe fn jr_arc_extend_bounds(arc: &[f64; 7], from: &[f64; 3], to: &[f64; 3], corners: &mut [f64; 6]) -> u32;
 }
 
 /// The port's box call of an arc, for lists of box calls.
 pub fn port_extend_bounds(arc: &[f64; 7], from: &[f64; 3], to: &[f64; 3], corners: &mut [f64; 6]) -> u32 {
-    jr_extend_bounds(arc, from, to, corners)
+    jr_arc_extend_bounds(arc, from, to, corners)
 }
 
 pub mod rust {
@@ -551,17 +551,17 @@ fn edge_and_box(d: &mut Draw, i: &mut [f64], kind: Kind) {
 const FULL: u64 = 5_000_000;
 
 pub const ENTRIES: &[Entry] = &[
-    Entry { flags: &[2], ..entry!(turn, jr_turn, 7, 1, FULL, TURNS, |f, i, o| f(at(i, 0), i[2] > 0.0, at(i, 3), at(i, 5), out(o))) },
+    Entry { flags: &[2], ..entry!(turn, jr_profile_arc_turn, 7, 1, FULL, TURNS, |f, i, o| f(at(i, 0), i[2] > 0.0, at(i, 3), at(i, 5), out(o))) },
     entry!(unit, jr_unit, 3, 3, FULL, VECTORS, |f, i, o| f(at(i, 0), out(o))),
     entry!(per_turn, jr_per_turn, 2, 1, FULL, CHORDS, |f, i, o| f(i[0], i[1], out(o))),
-    entry!(reversed, jr_reversed, 7, 7, FULL, edges!(arc_or_edge), |f, i, o| f(at(i, 0), out(o))),
-    entry!(sweep, jr_sweep, 13, 1, FULL, edges!(arc_or_edge), |f, i, o| f(at(i, 0), at(i, 7), at(i, 10), out(o))),
-    entry!(at, jr_at, 11, 3, FULL, edges!(arc_and_angle), |f, i, o| f(at(i, 0), at(i, 7), i[10], out(o))),
+    entry!(reversed, jr_arc_reversed, 7, 7, FULL, edges!(arc_or_edge), |f, i, o| f(at(i, 0), out(o))),
+    entry!(sweep, jr_arc_sweep, 13, 1, FULL, edges!(arc_or_edge), |f, i, o| f(at(i, 0), at(i, 7), at(i, 10), out(o))),
+    entry!(at, jr_arc_at, 11, 3, FULL, edges!(arc_and_angle), |f, i, o| f(at(i, 0), at(i, 7), i[10], out(o))),
     Entry {
         whole_inputs: &[14],
         whole_outputs: &[0],
         row: true,
-        ..entry!(inner_points, jr_inner_points, 15, 1 + ROW, FULL, edges!(edge_and_row), |f, i, o| {
+        ..entry!(inner_points, jr_arc_inner_points, 15, 1 + ROW, FULL, edges!(edge_and_row), |f, i, o| {
             let (mut written, length) = ([7], i[14] as usize);
             let row = &mut o[1..1 + length];
             let refusal = f(at(i, 0), at(i, 7), at(i, 10), i[13], row.as_mut_ptr(), length, &mut written);
@@ -571,7 +571,7 @@ pub const ENTRIES: &[Entry] = &[
     },
     Entry {
         zeros_alike: true,
-        ..entry!(extend_bounds, jr_extend_bounds, 19, 6, FULL, edges!(edge_and_box), |f, i, o| {
+        ..entry!(extend_bounds, jr_arc_extend_bounds, 19, 6, FULL, edges!(edge_and_box), |f, i, o| {
             o.copy_from_slice(&i[13..]);
             f(at(i, 0), at(i, 7), at(i, 10), out(o))
         })

@@ -896,7 +896,7 @@ pub const ENTRIES: &[Entry] = &[
 pub const LISTS: &[Entry] = &[
     Entry {
         name: "curve_box_lists",
-        port_name: "jr_curve_extend_bounds jr_extend_bounds",
+        port_name: "jr_curve_extend_bounds jr_arc_extend_bounds",
         takes: PLACES + SHUFFLED,
         gives: EDGES + 6 + SHUFFLED + 6,
         full: DEAR / 4,

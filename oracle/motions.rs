@@ -7,10 +7,10 @@ use crate::draw::Draw;
 use crate::entry::{Class, Entry, at, entry, out};
 
 unsafe extern "C" {
-    safe fn jr_rotation(axis: &[f64; 3], angle: f64, out: &mut [f64; 12]) -> u32;
-    safe fn jr_frame(origin: &[f64; 3], x: &[f64; 3], y: &[f64; 3], z: &[f64; 3], out: &mut [f64; 12]) -> u32;
-    safe fn jr_apply(m: &[f64; 12], p: &[f64; 3], out: &mut [f64; 3]) -> u32;
-    safe fn jr_apply_vector(m: &[f64; 12], v: &[f64; 3], out: &mut [f64; 3]) -> u32;
+    safe fn jr_rigid_rotation(axis: &[f64; 3], angle: f64, out: &mut [f64; 12]) -> u32;
+    safe fn jr_rigid_frame(origin: &[f64; 3], x: &[f64; 3], y: &[f64; 3], z: &[f64; 3], out: &mut [f64; 12]) -> u32;
+    safe fn jr_rigid_apply(m: &[f64; 12], p: &[f64; 3], out: &mut [f64; 3]) -> u32;
+    safe fn jr_rigid_apply_vector(m: &[f64; 12], v: &[f64; 3], out: &mut [f64; 3]) -> u32;
 }
 
 mod rust {
@@ -148,8 +148,8 @@ const MOTIONS: &[Class] =
 const FULL: u64 = 5_000_000;
 
 pub const ENTRIES: &[Entry] = &[
-    entry!(rotation, jr_rotation, 4, 12, FULL, ROTATIONS, |f, i, o| f(at(i, 0), i[3], out(o))),
-    entry!(frame, jr_frame, 12, 12, FULL, NUMBERS, |f, i, o| f(at(i, 0), at(i, 3), at(i, 6), at(i, 9), out(o))),
-    entry!(apply, jr_apply, 15, 3, FULL, MOTIONS, |f, i, o| f(at(i, 0), at(i, 12), out(o))),
-    entry!(apply_vector, jr_apply_vector, 15, 3, FULL, MOTIONS, |f, i, o| f(at(i, 0), at(i, 12), out(o))),
+    entry!(rotation, jr_rigid_rotation, 4, 12, FULL, ROTATIONS, |f, i, o| f(at(i, 0), i[3], out(o))),
+    entry!(frame, jr_rigid_frame, 12, 12, FULL, NUMBERS, |f, i, o| f(at(i, 0), at(i, 3), at(i, 6), at(i, 9), out(o))),
+    entry!(apply, jr_rigid_apply, 15, 3, FULL, MOTIONS, |f, i, o| f(at(i, 0), at(i, 12), out(o))),
+    entry!(apply_vector, jr_rigid_apply_vector, 15, 3, FULL, MOTIONS, |f, i, o| f(at(i, 0), at(i, 12), out(o))),
 ];

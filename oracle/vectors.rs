@@ -4,13 +4,13 @@ use crate::classes::NUMBERS;
 use crate::entry::{Entry, at, entry, out};
 
 unsafe extern "C" {
-    safe fn jr_dot(a: &[f64; 3], b: &[f64; 3], out: &mut [f64; 1]) -> u32;
-    safe fn jr_cross(a: &[f64; 3], b: &[f64; 3], out: &mut [f64; 3]) -> u32;
-    safe fn jr_sum(a: &[f64; 3], b: &[f64; 3], out: &mut [f64; 3]) -> u32;
-    safe fn jr_difference(a: &[f64; 3], b: &[f64; 3], out: &mut [f64; 3]) -> u32;
-    safe fn jr_negation(a: &[f64; 3], out: &mut [f64; 3]) -> u32;
-    safe fn jr_times(a: &[f64; 3], k: f64, out: &mut [f64; 3]) -> u32;
-    safe fn jr_dominant_axis(a: &[f64; 3], out: &mut [u64; 1]) -> u32;
+    safe fn jr_vec3_dot(a: &[f64; 3], b: &[f64; 3], out: &mut [f64; 1]) -> u32;
+    safe fn jr_vec3_cross(a: &[f64; 3], b: &[f64; 3], out: &mut [f64; 3]) -> u32;
+    safe fn jr_vec3_sum(a: &[f64; 3], b: &[f64; 3], out: &mut [f64; 3]) -> u32;
+    safe fn jr_vec3_difference(a: &[f64; 3], b: &[f64; 3], out: &mut [f64; 3]) -> u32;
+    safe fn jr_vec3_negation(a: &[f64; 3], out: &mut [f64; 3]) -> u32;
+    safe fn jr_vec3_times(a: &[f64; 3], k: f64, out: &mut [f64; 3]) -> u32;
+    safe fn jr_vec3_dominant_axis(a: &[f64; 3], out: &mut [u64; 1]) -> u32;
 }
 
 mod rust {
@@ -92,15 +92,15 @@ mod second {
 const FULL: u64 = 5_000_000;
 
 pub const ENTRIES: &[Entry] = &[
-    entry!(dot, jr_dot, 6, 1, FULL, NUMBERS, |f, i, o| f(at(i, 0), at(i, 3), out(o))),
-    entry!(cross, jr_cross, 6, 3, FULL, NUMBERS, |f, i, o| f(at(i, 0), at(i, 3), out(o))),
-    entry!(sum, jr_sum, 6, 3, FULL, NUMBERS, |f, i, o| f(at(i, 0), at(i, 3), out(o))),
-    entry!(difference, jr_difference, 6, 3, FULL, NUMBERS, |f, i, o| f(at(i, 0), at(i, 3), out(o))),
-    entry!(negation, jr_negation, 3, 3, FULL, NUMBERS, |f, i, o| f(at(i, 0), out(o))),
-    entry!(times, jr_times, 4, 3, FULL, NUMBERS, |f, i, o| f(at(i, 0), i[3], out(o))),
+    entry!(dot, jr_vec3_dot, 6, 1, FULL, NUMBERS, |f, i, o| f(at(i, 0), at(i, 3), out(o))),
+    entry!(cross, jr_vec3_cross, 6, 3, FULL, NUMBERS, |f, i, o| f(at(i, 0), at(i, 3), out(o))),
+    entry!(sum, jr_vec3_sum, 6, 3, FULL, NUMBERS, |f, i, o| f(at(i, 0), at(i, 3), out(o))),
+    entry!(difference, jr_vec3_difference, 6, 3, FULL, NUMBERS, |f, i, o| f(at(i, 0), at(i, 3), out(o))),
+    entry!(negation, jr_vec3_negation, 3, 3, FULL, NUMBERS, |f, i, o| f(at(i, 0), out(o))),
+    entry!(times, jr_vec3_times, 4, 3, FULL, NUMBERS, |f, i, o| f(at(i, 0), i[3], out(o))),
     Entry {
         whole_outputs: &[0],
-        ..entry!(dominant_axis, jr_dominant_axis, 3, 1, FULL, NUMBERS, |f, i, o| {
+        ..entry!(dominant_axis, jr_vec3_dominant_axis, 3, 1, FULL, NUMBERS, |f, i, o| {
             let mut axis = [77];
             let refusal = f(at(i, 0), &mut axis);
             o[0] = axis[0] as f64;

@@ -92,26 +92,26 @@ static void numbers(void)
 static void vectors(void)
 {
     const double a[3] = {1, 2, 3}, b[3] = {4, -7, 6}, m[3] = {1048576, 0, 0}, far[3] = {1048577, 0, 0};
-    WRITTEN(jr_dot(a, b, out), 1, 8.0);
-    WRITTEN(jr_cross(a, b, out), 3, 33.0, 6.0, -15.0);
-    WRITTEN(jr_sum(a, b, out), 3, 5.0, -5.0, 9.0);
-    WRITTEN(jr_difference(a, b, out), 3, -3.0, 9.0, -3.0);
-    WRITTEN(jr_negation(a, out), 3, -1.0, -2.0, -3.0);
-    WRITTEN(jr_times(a, 2, out), 3, 2.0, 4.0, 6.0);
-    COUNTED(jr_dominant_axis(b, whole), 1);
-    WRITTEN(jr_negation(m, out), 3, -1048576.0, 0.0, 0.0);
-    REFUSED(jr_negation(far, out), JR_OUT_OF_RANGE);
+    WRITTEN(jr_vec3_dot(a, b, out), 1, 8.0);
+    WRITTEN(jr_vec3_cross(a, b, out), 3, 33.0, 6.0, -15.0);
+    WRITTEN(jr_vec3_sum(a, b, out), 3, 5.0, -5.0, 9.0);
+    WRITTEN(jr_vec3_difference(a, b, out), 3, -3.0, 9.0, -3.0);
+    WRITTEN(jr_vec3_negation(a, out), 3, -1.0, -2.0, -3.0);
+    WRITTEN(jr_vec3_times(a, 2, out), 3, 2.0, 4.0, 6.0);
+    COUNTED(jr_vec3_dominant_axis(b, whole), 1);
+    WRITTEN(jr_vec3_negation(m, out), 3, -1048576.0, 0.0, 0.0);
+    REFUSED(jr_vec3_negation(far, out), JR_OUT_OF_RANGE);
 }
 
 static void motions(void)
 {
     const double axis[3] = {0, 0, 2}, at[3] = {1, 2, 3}, back[3] = {-1, 0, 0};
     double m[JR_RIGID];
-    WRITTEN(jr_rotation(axis, PI / 2, out), 12, 0.0, -1.0, 0.0, 1.0, 0.0, 0.0, 0.0, 0.0, 1.0, 0.0, 0.0, 0.0);
-    WRITTEN(jr_frame(at, y, back, z, out), 12, 0.0, -1.0, 0.0, 1.0, 0.0, 0.0, 0.0, 0.0, 1.0, 1.0, 2.0, 3.0);
-    answered(__LINE__, jr_frame(at, y, back, z, m), JR_OK);
-    WRITTEN(jr_apply(m, x, out), 3, 1.0, 3.0, 3.0);
-    WRITTEN(jr_apply_vector(m, x, out), 3, 0.0, 1.0, 0.0);
+    WRITTEN(jr_rigid_rotation(axis, PI / 2, out), 12, 0.0, -1.0, 0.0, 1.0, 0.0, 0.0, 0.0, 0.0, 1.0, 0.0, 0.0, 0.0);
+    WRITTEN(jr_rigid_frame(at, y, back, z, out), 12, 0.0, -1.0, 0.0, 1.0, 0.0, 0.0, 0.0, 0.0, 1.0, 1.0, 2.0, 3.0);
+    answered(__LINE__, jr_rigid_frame(at, y, back, z, m), JR_OK);
+    WRITTEN(jr_rigid_apply(m, x, out), 3, 1.0, 3.0, 3.0);
+    WRITTEN(jr_rigid_apply_vector(m, x, out), 3, 0.0, 1.0, 0.0);
 }
 
 static void arcs(void)
@@ -121,23 +121,23 @@ static void arcs(void)
     double row[JR_ARC_ROW];
     WRITTEN(jr_unit(v, out), 3, 0.0, 0.6, 0.8);
     REFUSED(jr_unit(zero, out), JR_NOT_FINITE);
-    WRITTEN(jr_turn(o2, true, a2, b2, out), 1, PI / 2);
-    WRITTEN(jr_turn(o2, false, a2, b2, out), 1, -1.5 * PI);
-    WRITTEN(jr_reversed(a, out), 7, 0.0, 0.0, 0.0, 0.0, 0.0, -1.0, 5.0);
-    WRITTEN(jr_sweep(a, from, to, out), 1, PI / 2);
-    WRITTEN(jr_sweep(a, from, from, out), 1, 2 * PI);
-    WRITTEN(jr_at(a, from, PI / 2, out), 3, 0.0, 5.0, 0.0);
-    WRITTEN(jr_extend_bounds(a, to, from, old(6, -6.0, 0.0, 0.0, 1.0, 0.0, 0.5)), 6, -6.0, -5.0, 0.0, 5.0, 5.0, 0.5);
-    answered(__LINE__, jr_extend_bounds(a, to, from, old(6, 0.0, 0.0, 0.0, NAN, 0.0, 0.0)), JR_BAD_BOX_OR_SUMS);
+    WRITTEN(jr_profile_arc_turn(o2, true, a2, b2, out), 1, PI / 2);
+    WRITTEN(jr_profile_arc_turn(o2, false, a2, b2, out), 1, -1.5 * PI);
+    WRITTEN(jr_arc_reversed(a, out), 7, 0.0, 0.0, 0.0, 0.0, 0.0, -1.0, 5.0);
+    WRITTEN(jr_arc_sweep(a, from, to, out), 1, PI / 2);
+    WRITTEN(jr_arc_sweep(a, from, from, out), 1, 2 * PI);
+    WRITTEN(jr_arc_at(a, from, PI / 2, out), 3, 0.0, 5.0, 0.0);
+    WRITTEN(jr_arc_extend_bounds(a, to, from, old(6, -6.0, 0.0, 0.0, 1.0, 0.0, 0.5)), 6, -6.0, -5.0, 0.0, 5.0, 5.0, 0.5);
+    answered(__LINE__, jr_arc_extend_bounds(a, to, from, old(6, 0.0, 0.0, 0.0, NAN, 0.0, 0.0)), JR_BAD_BOX_OR_SUMS);
     old(6, UNTOUCHED, UNTOUCHED, UNTOUCHED, UNTOUCHED, UNTOUCHED, UNTOUCHED);
     WRITTEN(jr_per_turn(5, 5, out), 1, 12.0);
     WRITTEN(jr_per_turn(5, 0, out), 1, 64.0);
     REFUSED(jr_per_turn(5, -1, out), JR_BAD_TOLERANCE);
-    COUNTED(jr_inner_points(a, from, from, 5, row, JR_ARC_ROW, whole), 33);
-    COUNTED(jr_inner_points(a, from, from, 0, row, JR_ARC_ROW, whole), JR_ARC_ROW);
+    COUNTED(jr_arc_inner_points(a, from, from, 5, row, JR_ARC_ROW, whole), 33);
+    COUNTED(jr_arc_inner_points(a, from, from, 0, row, JR_ARC_ROW, whole), JR_ARC_ROW);
     NUMBER(row[3 * 31], -5);
-    answered(__LINE__, jr_inner_points(a, from, from, 0, row, JR_ARC_ROW - 1, whole), JR_ROW_TOO_SHORT);
-    COUNTED(jr_inner_points(a, from, to, 5, out, 6, whole), 6);
+    answered(__LINE__, jr_arc_inner_points(a, from, from, 0, row, JR_ARC_ROW - 1, whole), JR_ROW_TOO_SHORT);
+    COUNTED(jr_arc_inner_points(a, from, to, 5, out, 6, whole), 6);
     WRITTEN(JR_OK, 6, 5 * jr_sqrt(0.75), 2.5, 0.0, 2.5, 5 * jr_sqrt(0.75), 0.0);
 }
 

@@ -28,9 +28,9 @@ int main(void)
     while (read_numbers(arc, JR_ARC) && read_numbers(from, JR_VEC3) && read_numbers(to, JR_VEC3) &&
            read_numbers(&chord, 1)) {
         uint64_t written = 0;
-        uint32_t answer = jr_inner_points(arc, from, to, chord, row, JR_ARC_ROW, &written);
+        uint32_t answer = jr_arc_inner_points(arc, from, to, chord, row, JR_ARC_ROW, &written);
         if (answer == JR_OK)
-            answer = jr_extend_bounds(arc, from, to, box);
+            answer = jr_arc_extend_bounds(arc, from, to, box);
         if (answer == JR_OK)
             printf("arc %d: %d inner points\n", ++k, (int)(written / JR_VEC3));
         else

@@ -173,41 +173,42 @@ uint32_t jr_sincos(double x, double out[2]);
 /* ---- Vectors */
 
 /* The scalar product of a and b. */
-uint32_t jr_dot(const double a[JR_VEC3], const double b[JR_VEC3], double out[1]);
+uint32_t jr_vec3_dot(const double a[JR_VEC3], const double b[JR_VEC3], double out[1]);
 
 /* The vector product of a and b. */
-uint32_t jr_cross(const double a[JR_VEC3], const double b[JR_VEC3], double out[JR_VEC3]);
+uint32_t jr_vec3_cross(const double a[JR_VEC3], const double b[JR_VEC3], double out[JR_VEC3]);
 
 /* The sum of a and b. */
-uint32_t jr_sum(const double a[JR_VEC3], const double b[JR_VEC3], double out[JR_VEC3]);
+uint32_t jr_vec3_sum(const double a[JR_VEC3], const double b[JR_VEC3], double out[JR_VEC3]);
 
 /* The difference a - b. */
-uint32_t jr_difference(const double a[JR_VEC3], const double b[JR_VEC3], double out[JR_VEC3]);
+uint32_t jr_vec3_difference(const double a[JR_VEC3], const double b[JR_VEC3], double out[JR_VEC3]);
 
 /* The vector a with the sign of each coordinate turned. */
-uint32_t jr_negation(const double a[JR_VEC3], double out[JR_VEC3]);
+uint32_t jr_vec3_negation(const double a[JR_VEC3], double out[JR_VEC3]);
 
 /* The vector a times the number k. */
-uint32_t jr_times(const double a[JR_VEC3], double k, double out[JR_VEC3]);
+uint32_t jr_vec3_times(const double a[JR_VEC3], double k, double out[JR_VEC3]);
 
 /* Which coordinate of a is the largest in magnitude, 0, 1 or 2, the first of equal ones. */
-uint32_t jr_dominant_axis(const double a[JR_VEC3], uint64_t out[1]);
+uint32_t jr_vec3_dominant_axis(const double a[JR_VEC3], uint64_t out[1]);
 
 /* ---- Motions */
 
 /* The rotation by the angle about an axis of any length through the origin. */
-uint32_t jr_rotation(const double axis[JR_VEC3], double angle, double out[JR_RIGID]);
+uint32_t jr_rigid_rotation(const double axis[JR_VEC3], double angle, double out[JR_RIGID]);
 
 /* The motion from the coordinates of a frame, its axes x, y and z at `origin`, to those of the
    world. */
-uint32_t jr_frame(const double origin[JR_VEC3], const double x[JR_VEC3], const double y[JR_VEC3],
-    const double z[JR_VEC3], double out[JR_RIGID]);
+uint32_t jr_rigid_frame(const double origin[JR_VEC3], const double x[JR_VEC3],
+    const double y[JR_VEC3], const double z[JR_VEC3], double out[JR_RIGID]);
 
 /* The point p moved by m. */
-uint32_t jr_apply(const double m[JR_RIGID], const double p[JR_VEC3], double out[JR_VEC3]);
+uint32_t jr_rigid_apply(const double m[JR_RIGID], const double p[JR_VEC3], double out[JR_VEC3]);
 
 /* The direction p turned by m, whose shift is left out. */
-uint32_t jr_apply_vector(const double m[JR_RIGID], const double p[JR_VEC3], double out[JR_VEC3]);
+uint32_t jr_rigid_apply_vector(const double m[JR_RIGID], const double p[JR_VEC3],
+    double out[JR_VEC3]);
 
 /* ---- Directions, profile arcs and arcs */
 
@@ -216,22 +217,23 @@ uint32_t jr_unit(const double v[JR_VEC3], double out[JR_VEC3]);
 
 /* The angle turned about `center` from a to b: above 0 and at most 2 pi where `ccw`, else below 0
    and at least -2 pi. */
-uint32_t jr_turn(const double center[JR_VEC2], bool ccw, const double a[JR_VEC2],
+uint32_t jr_profile_arc_turn(const double center[JR_VEC2], bool ccw, const double a[JR_VEC2],
     const double b[JR_VEC2], double out[1]);
 
 /* The arc a run the other way: its axis turned round. */
-uint32_t jr_reversed(const double a[JR_ARC], double out[JR_ARC]);
+uint32_t jr_arc_reversed(const double a[JR_ARC], double out[JR_ARC]);
 
 /* The angle of the arc a from `from` to `to`, above 0 and at most 2 pi: one point twice is a full
    circle. */
-uint32_t jr_sweep(const double a[JR_ARC], const double from[JR_VEC3], const double to[JR_VEC3],
+uint32_t jr_arc_sweep(const double a[JR_ARC], const double from[JR_VEC3], const double to[JR_VEC3],
     double out[1]);
 
 /* The point of the arc a at the angle t from `from`, counterclockwise about its axis. */
-uint32_t jr_at(const double a[JR_ARC], const double from[JR_VEC3], double t, double out[JR_VEC3]);
+uint32_t jr_arc_at(const double a[JR_ARC], const double from[JR_VEC3], double t,
+    double out[JR_VEC3]);
 
 /* Widens the box b to hold the arc a from `from` to `to`. */
-uint32_t jr_extend_bounds(const double a[JR_ARC], const double from[JR_VEC3],
+uint32_t jr_arc_extend_bounds(const double a[JR_ARC], const double from[JR_VEC3],
     const double to[JR_VEC3], double b[JR_BOUNDS]);
 
 /* How many chords a full turn of a circle takes to stay within `chord` of it, at least 12 and at
@@ -241,7 +243,7 @@ uint32_t jr_per_turn(double radius, double chord, double out[1]);
 /* Writes the points of the arc a strictly between `from` and `to`, for as many chords a turn as
    `jr_per_turn` says, three numbers each from the start of `row`, and how many numbers these are to
    `written`. */
-uint32_t jr_inner_points(const double a[JR_ARC], const double from[JR_VEC3],
+uint32_t jr_arc_inner_points(const double a[JR_ARC], const double from[JR_VEC3],
     const double to[JR_VEC3], double chord, double *row, size_t row_length, uint64_t written[1]);
 
 /* ---- Developments */

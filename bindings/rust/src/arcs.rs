@@ -29,7 +29,7 @@ impl ProfileArc {
     /// ```
     pub fn turn(&self, a: Vec2, b: Vec2) -> Result<f64, Refusal> {
         let [center, a, b] = [self.center, a, b].map(Vec2::to_array);
-        ffi::number(|out| ffi::jr_turn(&center, self.ccw, &a, &b, out))
+        ffi::number(|out| ffi::jr_profile_arc_turn(&center, self.ccw, &a, &b, out))
     }
 }
 
@@ -77,18 +77,18 @@ impl Arc {
     /// The same circle turned about the other way, so that an arc from `a` to `b` is one from `b`
     /// to `a`.
     pub fn reversed(&self) -> Result<Self, Refusal> {
-        ffi::numbers(|out| ffi::jr_reversed(&self.numbers(), out)).map(|a| Self::of(&a))
+        ffi::numbers(|out| ffi::jr_arc_reversed(&self.numbers(), out)).map(|a| Self::of(&a))
     }
 
     /// The angle from `from` to `to`, above 0 and at most 2π. One point twice is a full circle.
     pub fn sweep(&self, from: Vec3, to: Vec3) -> Result<f64, Refusal> {
         let [from, to] = [from, to].map(Vec3::to_array);
-        ffi::number(|out| ffi::jr_sweep(&self.numbers(), &from, &to, out))
+        ffi::number(|out| ffi::jr_arc_sweep(&self.numbers(), &from, &to, out))
     }
 
     /// The point at the angle `t` from `from`. A `from` on the axis is refused.
     pub fn at(&self, from: Vec3, t: f64) -> Result<Vec3, Refusal> {
-        ffi::numbers(|out| ffi::jr_at(&self.numbers(), &from.to_array(), t, out)).map(Vec3::from)
+        ffi::numbers(|out| ffi::jr_arc_at(&self.numbers(), &from.to_array(), t, out)).map(Vec3::from)
     }
 
     /// Writes points between `from` and `to`, for chords that stay within `chord` of the arc, to
@@ -117,7 +117,7 @@ impl Arc {
         let written = ffi::count(|written| {
             let (start, length) = (row.as_mut_ptr(), row.len());
             // SAFETY: `row` is borrowed for this call alone, and these are its start and length.
-            unsafe { ffi::jr_inner_points(&arc, &from, &to, chord, start, length, written) }
+            unsafe { ffi::jr_arc_inner_points(&arc, &from, &to, chord, start, length, written) }
         })?;
         Ok(&mut row[..written])
     }
@@ -133,7 +133,7 @@ impl Arc {
     /// the six points where its circle is extreme along a coordinate.
     pub fn extend_bounds(&self, from: Vec3, to: Vec3, bounds: &mut Bounds) -> Result<(), Refusal> {
         let (arc, [from, to]) = (self.numbers(), [from, to].map(Vec3::to_array));
-        bounds.lend(|corners| ffi::jr_extend_bounds(&arc, &from, &to, corners))
+        bounds.lend(|corners| ffi::jr_arc_extend_bounds(&arc, &from, &to, corners))
     }
 
     pub(crate) fn numbers(&self) -> [f64; 7] {

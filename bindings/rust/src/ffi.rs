@@ -11,27 +11,27 @@ use crate::Refusal;
 // not, and stand last.
 unsafe extern "C" {
     // vectors and motions
-    pub safe fn jr_dot(a: &[f64; 3], b: &[f64; 3], out: &mut [f64; 1]) -> u32;
-    pub safe fn jr_cross(a: &[f64; 3], b: &[f64; 3], out: &mut [f64; 3]) -> u32;
-    pub safe fn jr_sum(a: &[f64; 3], b: &[f64; 3], out: &mut [f64; 3]) -> u32;
-    pub safe fn jr_difference(a: &[f64; 3], b: &[f64; 3], out: &mut [f64; 3]) -> u32;
-    pub safe fn jr_negation(a: &[f64; 3], out: &mut [f64; 3]) -> u32;
-    pub safe fn jr_times(a: &[f64; 3], k: f64, out: &mut [f64; 3]) -> u32;
-    pub safe fn jr_dominant_axis(a: &[f64; 3], out: &mut [u64; 1]) -> u32;
+    pub safe fn jr_vec3_dot(a: &[f64; 3], b: &[f64; 3], out: &mut [f64; 1]) -> u32;
+    pub safe fn jr_vec3_cross(a: &[f64; 3], b: &[f64; 3], out: &mut [f64; 3]) -> u32;
+    pub safe fn jr_vec3_sum(a: &[f64; 3], b: &[f64; 3], out: &mut [f64; 3]) -> u32;
+    pub safe fn jr_vec3_difference(a: &[f64; 3], b: &[f64; 3], out: &mut [f64; 3]) -> u32;
+    pub safe fn jr_vec3_negation(a: &[f64; 3], out: &mut [f64; 3]) -> u32;
+    pub safe fn jr_vec3_times(a: &[f64; 3], k: f64, out: &mut [f64; 3]) -> u32;
+    pub safe fn jr_vec3_dominant_axis(a: &[f64; 3], out: &mut [u64; 1]) -> u32;
     pub safe fn jr_unit(v: &[f64; 3], out: &mut [f64; 3]) -> u32;
-    pub safe fn jr_rotation(axis: &[f64; 3], angle: f64, out: &mut [f64; 12]) -> u32;
-    pub safe fn jr_frame(
+    pub safe fn jr_rigid_rotation(axis: &[f64; 3], angle: f64, out: &mut [f64; 12]) -> u32;
+    pub safe fn jr_rigid_frame(
         origin: &[f64; 3],
         x: &[f64; 3],
         y: &[f64; 3],
         z: &[f64; 3],
         out: &mut [f64; 12],
     ) -> u32;
-    pub safe fn jr_apply(m: &[f64; 12], p: &[f64; 3], out: &mut [f64; 3]) -> u32;
-    pub safe fn jr_apply_vector(m: &[f64; 12], v: &[f64; 3], out: &mut [f64; 3]) -> u32;
+    pub safe fn jr_rigid_apply(m: &[f64; 12], p: &[f64; 3], out: &mut [f64; 3]) -> u32;
+    pub safe fn jr_rigid_apply_vector(m: &[f64; 12], v: &[f64; 3], out: &mut [f64; 3]) -> u32;
 
     // arcs: centre, axis, radius
-    pub safe fn jr_turn(
+    pub safe fn jr_profile_arc_turn(
         center: &[f64; 2],
         ccw: bool,
         a: &[f64; 2],
@@ -39,11 +39,11 @@ unsafe extern "C" {
         out: &mut [f64; 1],
     ) -> u32;
     pub safe fn jr_per_turn(radius: f64, chord: f64, out: &mut [f64; 1]) -> u32;
-    pub safe fn jr_reversed(arc: &[f64; 7], out: &mut [f64; 7]) -> u32;
-    pub safe fn jr_sweep(arc: &[f64; 7], from: &[f64; 3], to: &[f64; 3], out: &mut [f64; 1])
+    pub safe fn jr_arc_reversed(arc: &[f64; 7], out: &mut [f64; 7]) -> u32;
+    pub safe fn jr_arc_sweep(arc: &[f64; 7], from: &[f64; 3], to: &[f64; 3], out: &mut [f64; 1])
     -> u32;
-    pub safe fn jr_at(arc: &[f64; 7], from: &[f64; 3], t: f64, out: &mut [f64; 3]) -> u32;
-    pub safe fn jr_extend_bounds(
+    pub safe fn jr_arc_at(arc: &[f64; 7], from: &[f64; 3], t: f64, out: &mut [f64; 3]) -> u32;
+    pub safe fn jr_arc_extend_bounds(
         arc: &[f64; 7],
         from: &[f64; 3],
         to: &[f64; 3],
@@ -270,7 +270,7 @@ unsafe extern "C" {
     ) -> u32;
 
     // rows: `row` is the start of `length` numbers that nothing else has hold of
-    pub fn jr_inner_points(
+    pub fn jr_arc_inner_points(
         arc: &[f64; 7],
         from: &[f64; 3],
         to: &[f64; 3],

@@ -77,37 +77,37 @@ impl Vec3 {
 
     /// The scalar product, added from left to right.
     pub fn dot(self, o: Self) -> Result<f64, Refusal> {
-        ffi::number(|out| ffi::jr_dot(&self.to_array(), &o.to_array(), out))
+        ffi::number(|out| ffi::jr_vec3_dot(&self.to_array(), &o.to_array(), out))
     }
 
     /// The vector product.
     pub fn cross(self, o: Self) -> Result<Self, Refusal> {
-        ffi::numbers(|out| ffi::jr_cross(&self.to_array(), &o.to_array(), out)).map(Self::from)
+        ffi::numbers(|out| ffi::jr_vec3_cross(&self.to_array(), &o.to_array(), out)).map(Self::from)
     }
 
     /// Both added, coordinate by coordinate; also `self + o`.
     pub fn sum(self, o: Self) -> Result<Self, Refusal> {
-        ffi::numbers(|out| ffi::jr_sum(&self.to_array(), &o.to_array(), out)).map(Self::from)
+        ffi::numbers(|out| ffi::jr_vec3_sum(&self.to_array(), &o.to_array(), out)).map(Self::from)
     }
 
     /// `o` taken away, coordinate by coordinate; also `self - o`.
     pub fn difference(self, o: Self) -> Result<Self, Refusal> {
-        ffi::numbers(|out| ffi::jr_difference(&self.to_array(), &o.to_array(), out)).map(Self::from)
+        ffi::numbers(|out| ffi::jr_vec3_difference(&self.to_array(), &o.to_array(), out)).map(Self::from)
     }
 
     /// The opposite vector; also `-self`.
     pub fn negation(self) -> Result<Self, Refusal> {
-        ffi::numbers(|out| ffi::jr_negation(&self.to_array(), out)).map(Self::from)
+        ffi::numbers(|out| ffi::jr_vec3_negation(&self.to_array(), out)).map(Self::from)
     }
 
     /// Every coordinate times `k`; also `self * k`.
     pub fn times(self, k: f64) -> Result<Self, Refusal> {
-        ffi::numbers(|out| ffi::jr_times(&self.to_array(), k, out)).map(Self::from)
+        ffi::numbers(|out| ffi::jr_vec3_times(&self.to_array(), k, out)).map(Self::from)
     }
 
     /// Which coordinate is greatest in magnitude: 0, 1 or 2, the first of equals.
     pub fn dominant_axis(self) -> Result<usize, Refusal> {
-        ffi::count(|out| ffi::jr_dominant_axis(&self.to_array(), out))
+        ffi::count(|out| ffi::jr_vec3_dominant_axis(&self.to_array(), out))
     }
 }
 
@@ -177,24 +177,24 @@ pub struct Rigid {
 impl Rigid {
     /// The rotation by `angle` radians about `axis`, of any length but 0, through the origin.
     pub fn rotation(axis: Vec3, angle: f64) -> Result<Self, Refusal> {
-        ffi::numbers(|out| ffi::jr_rotation(&axis.to_array(), angle, out)).map(Self::from)
+        ffi::numbers(|out| ffi::jr_rigid_rotation(&axis.to_array(), angle, out)).map(Self::from)
     }
 
     /// The motion that takes the origin to `origin` and the three axes to `x`, `y` and `z`, which
     /// are to be of length 1, at right angles and right-handed.
     pub fn frame(origin: Vec3, x: Vec3, y: Vec3, z: Vec3) -> Result<Self, Refusal> {
         let [o, x, y, z] = [origin, x, y, z].map(Vec3::to_array);
-        ffi::numbers(|out| ffi::jr_frame(&o, &x, &y, &z, out)).map(Self::from)
+        ffi::numbers(|out| ffi::jr_rigid_frame(&o, &x, &y, &z, out)).map(Self::from)
     }
 
     /// A point moved.
     pub fn apply(&self, p: Vec3) -> Result<Vec3, Refusal> {
-        ffi::numbers(|out| ffi::jr_apply(&self.numbers(), &p.to_array(), out)).map(Vec3::from)
+        ffi::numbers(|out| ffi::jr_rigid_apply(&self.numbers(), &p.to_array(), out)).map(Vec3::from)
     }
 
     /// A direction moved: the rotation alone.
     pub fn apply_vector(&self, v: Vec3) -> Result<Vec3, Refusal> {
-        ffi::numbers(|out| ffi::jr_apply_vector(&self.numbers(), &v.to_array(), out))
+        ffi::numbers(|out| ffi::jr_rigid_apply_vector(&self.numbers(), &v.to_array(), out))
             .map(Vec3::from)
     }
 

@@ -60,7 +60,7 @@ fn declarations_are_the_librarys() {
         }
     }
     let declared = functions(&fs::read_to_string(here.join("src/ffi.rs")).unwrap());
-    assert!(due.contains_key("jr_sweep"));
+    assert!(due.contains_key("jr_arc_sweep"));
     for name in due.keys().chain(declared.keys()) {
         assert_eq!(declared.get(name), due.get(name), "{name}: declared here, in the library");
     }

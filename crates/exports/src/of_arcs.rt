@@ -32,7 +32,7 @@ pub extern "C" fn jr_unit(v: &[f64; 3], out: &mut [f64; 3]) -> u32
 // The angle turned about `center` from a to b: above 0 and at most 2 pi where `ccw`, else below 0
 // and at least -2 pi.
 #[no_mangle]
-pub extern "C" fn jr_turn(
+pub extern "C" fn jr_profile_arc_turn(
     center: &[f64; 2],
     ccw: bool,
     a: &[f64; 2],
@@ -54,7 +54,7 @@ pub extern "C" fn jr_turn(
 
 // The arc a run the other way: its axis turned round.
 #[no_mangle]
-pub extern "C" fn jr_reversed(a: &[f64; 7], out: &mut [f64; 7]) -> u32
+pub extern "C" fn jr_arc_reversed(a: &[f64; 7], out: &mut [f64; 7]) -> u32
     ensures number { λ r. ⌜ r ≡ numberOf (Arcs.reversedDue (arc (now (a .entry)))) ⌝ }
     ensures out { λ _. ⌜ now (out .exit) ≡ after ofArc (now (out .entry)) (Arcs.reversedDue (arc (now (a .entry)))) ⌝ }
 {
@@ -65,7 +65,12 @@ pub extern "C" fn jr_reversed(a: &[f64; 7], out: &mut [f64; 7]) -> u32
 // The angle of the arc a from `from` to `to`, above 0 and at most 2 pi: one point twice is a full
 // circle.
 #[no_mangle]
-pub extern "C" fn jr_sweep(a: &[f64; 7], from: &[f64; 3], to: &[f64; 3], out: &mut [f64; 1]) -> u32
+pub extern "C" fn jr_arc_sweep(
+    a: &[f64; 7],
+    from: &[f64; 3],
+    to: &[f64; 3],
+    out: &mut [f64; 1],
+) -> u32
     ensures number { λ r. ⌜ r ≡ numberOf (Arcs.sweepDue (arc (now (a .entry))) (vec3 (now (from .entry))) (vec3 (now (to .entry)))) ⌝ }
     ensures out { λ _. ⌜ now (out .exit) ≡ after alone (now (out .entry)) (Arcs.sweepDue (arc (now (a .entry))) (vec3 (now (from .entry))) (vec3 (now (to .entry)))) ⌝ }
 {
@@ -77,7 +82,7 @@ pub extern "C" fn jr_sweep(a: &[f64; 7], from: &[f64; 3], to: &[f64; 3], out: &m
 
 // The point of the arc a at the angle t from `from`, counterclockwise about its axis.
 #[no_mangle]
-pub extern "C" fn jr_at(a: &[f64; 7], from: &[f64; 3], t: f64, out: &mut [f64; 3]) -> u32
+pub extern "C" fn jr_arc_at(a: &[f64; 7], from: &[f64; 3], t: f64, out: &mut [f64; 3]) -> u32
     ensures number { λ r. ⌜ r ≡ numberOf (Arcs.atDue (arc (now (a .entry))) (vec3 (now (from .entry))) t) ⌝ }
     ensures out { λ _. ⌜ now (out .exit) ≡ after ofVec3 (now (out .entry)) (Arcs.atDue (arc (now (a .entry))) (vec3 (now (from .entry))) t) ⌝ }
 {
@@ -88,7 +93,7 @@ pub extern "C" fn jr_at(a: &[f64; 7], from: &[f64; 3], t: f64, out: &mut [f64; 3
 
 // Widens the box b to hold the arc a from `from` to `to`.
 #[no_mangle]
-pub extern "C" fn jr_extend_bounds(
+pub extern "C" fn jr_arc_extend_bounds(
     a: &[f64; 7],
     from: &[f64; 3],
     to: &[f64; 3],
@@ -118,7 +123,7 @@ pub extern "C" fn jr_per_turn(radius: f64, chord: f64, out: &mut [f64; 1]) -> u3
 // `jr_per_turn` says, three numbers each from the start of `row`, and how many numbers these are to
 // `written`.
 #[no_mangle]
-pub extern "C" fn jr_inner_points(
+pub extern "C" fn jr_arc_inner_points(
     a: &[f64; 7],
     from: &[f64; 3],
     to: &[f64; 3],

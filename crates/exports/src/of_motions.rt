@@ -11,7 +11,7 @@ use motions::Rigid;
 
 // The rotation by the angle about an axis of any length through the origin.
 #[no_mangle]
-pub extern "C" fn jr_rotation(axis: &[f64; 3], angle: f64, out: &mut [f64; 12]) -> u32
+pub extern "C" fn jr_rigid_rotation(axis: &[f64; 3], angle: f64, out: &mut [f64; 12]) -> u32
     ensures number { λ r. ⌜ r ≡ numberOf (Motions.rotationDue (vec3 (now (axis .entry))) angle) ⌝ }
     ensures out { λ _. ⌜ now (out .exit) ≡ after ofRigid (now (out .entry)) (Motions.rotationDue (vec3 (now (axis .entry))) angle) ⌝ }
 {
@@ -22,7 +22,7 @@ pub extern "C" fn jr_rotation(axis: &[f64; 3], angle: f64, out: &mut [f64; 12]) 
 // The motion from the coordinates of a frame, its axes x, y and z at `origin`, to those of the
 // world.
 #[no_mangle]
-pub extern "C" fn jr_frame(
+pub extern "C" fn jr_rigid_frame(
     origin: &[f64; 3],
     x: &[f64; 3],
     y: &[f64; 3],
@@ -41,7 +41,7 @@ pub extern "C" fn jr_frame(
 
 // The point p moved by m.
 #[no_mangle]
-pub extern "C" fn jr_apply(m: &[f64; 12], p: &[f64; 3], out: &mut [f64; 3]) -> u32
+pub extern "C" fn jr_rigid_apply(m: &[f64; 12], p: &[f64; 3], out: &mut [f64; 3]) -> u32
     ensures number { λ r. ⌜ r ≡ numberOf (Motions.applyDue (rigid (now (m .entry))) (vec3 (now (p .entry)))) ⌝ }
     ensures out { λ _. ⌜ now (out .exit) ≡ after ofVec3 (now (out .entry)) (Motions.applyDue (rigid (now (m .entry))) (vec3 (now (p .entry)))) ⌝ }
 {
@@ -52,7 +52,7 @@ pub extern "C" fn jr_apply(m: &[f64; 12], p: &[f64; 3], out: &mut [f64; 3]) -> u
 
 // The direction p turned by m, whose shift is left out.
 #[no_mangle]
-pub extern "C" fn jr_apply_vector(m: &[f64; 12], p: &[f64; 3], out: &mut [f64; 3]) -> u32
+pub extern "C" fn jr_rigid_apply_vector(m: &[f64; 12], p: &[f64; 3], out: &mut [f64; 3]) -> u32
     ensures number { λ r. ⌜ r ≡ numberOf (Motions.applyVectorDue (rigid (now (m .entry))) (vec3 (now (p .entry)))) ⌝ }
     ensures out { λ _. ⌜ now (out .exit) ≡ after ofVec3 (now (out .entry)) (Motions.applyVectorDue (rigid (now (m .entry))) (vec3 (now (p .entry)))) ⌝ }
 {

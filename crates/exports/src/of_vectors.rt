@@ -9,7 +9,7 @@ use c_arrays::vec3_of;
 
 // The scalar product of a and b.
 #[no_mangle]
-pub extern "C" fn jr_dot(a: &[f64; 3], b: &[f64; 3], out: &mut [f64; 1]) -> u32
+pub extern "C" fn jr_vec3_dot(a: &[f64; 3], b: &[f64; 3], out: &mut [f64; 1]) -> u32
     ensures number { λ r. ⌜ r ≡ numberOf (Vectors.dotDue (vec3 (now (a .entry))) (vec3 (now (b .entry)))) ⌝ }
     ensures out { λ _. ⌜ now (out .exit) ≡ after alone (now (out .entry)) (Vectors.dotDue (vec3 (now (a .entry))) (vec3 (now (b .entry)))) ⌝ }
 {
@@ -20,7 +20,7 @@ pub extern "C" fn jr_dot(a: &[f64; 3], b: &[f64; 3], out: &mut [f64; 1]) -> u32
 
 // The vector product of a and b.
 #[no_mangle]
-pub extern "C" fn jr_cross(a: &[f64; 3], b: &[f64; 3], out: &mut [f64; 3]) -> u32
+pub extern "C" fn jr_vec3_cross(a: &[f64; 3], b: &[f64; 3], out: &mut [f64; 3]) -> u32
     ensures number { λ r. ⌜ r ≡ numberOf (Vectors.crossDue (vec3 (now (a .entry))) (vec3 (now (b .entry)))) ⌝ }
     ensures out { λ _. ⌜ now (out .exit) ≡ after ofVec3 (now (out .entry)) (Vectors.crossDue (vec3 (now (a .entry))) (vec3 (now (b .entry)))) ⌝ }
 {
@@ -31,7 +31,7 @@ pub extern "C" fn jr_cross(a: &[f64; 3], b: &[f64; 3], out: &mut [f64; 3]) -> u3
 
 // The sum of a and b.
 #[no_mangle]
-pub extern "C" fn jr_sum(a: &[f64; 3], b: &[f64; 3], out: &mut [f64; 3]) -> u32
+pub extern "C" fn jr_vec3_sum(a: &[f64; 3], b: &[f64; 3], out: &mut [f64; 3]) -> u32
     ensures number { λ r. ⌜ r ≡ numberOf (Vectors.sumDue (vec3 (now (a .entry))) (vec3 (now (b .entry)))) ⌝ }
     ensures out { λ _. ⌜ now (out .exit) ≡ after ofVec3 (now (out .entry)) (Vectors.sumDue (vec3 (now (a .entry))) (vec3 (now (b .entry)))) ⌝ }
 {
@@ -42,7 +42,7 @@ pub extern "C" fn jr_sum(a: &[f64; 3], b: &[f64; 3], out: &mut [f64; 3]) -> u32
 
 // The difference a - b.
 #[no_mangle]
-pub extern "C" fn jr_difference(a: &[f64; 3], b: &[f64; 3], out: &mut [f64; 3]) -> u32
+pub extern "C" fn jr_vec3_difference(a: &[f64; 3], b: &[f64; 3], out: &mut [f64; 3]) -> u32
     ensures number { λ r. ⌜ r ≡ numberOf (Vectors.differenceDue (vec3 (now (a .entry))) (vec3 (now (b .entry)))) ⌝ }
     ensures out { λ _. ⌜ now (out .exit) ≡ after ofVec3 (now (out .entry)) (Vectors.differenceDue (vec3 (now (a .entry))) (vec3 (now (b .entry)))) ⌝ }
 {
@@ -53,7 +53,7 @@ pub extern "C" fn jr_difference(a: &[f64; 3], b: &[f64; 3], out: &mut [f64; 3]) 
 
 // The vector a with the sign of each coordinate turned.
 #[no_mangle]
-pub extern "C" fn jr_negation(a: &[f64; 3], out: &mut [f64; 3]) -> u32
+pub extern "C" fn jr_vec3_negation(a: &[f64; 3], out: &mut [f64; 3]) -> u32
     ensures number { λ r. ⌜ r ≡ numberOf (Vectors.negationDue (vec3 (now (a .entry)))) ⌝ }
     ensures out { λ _. ⌜ now (out .exit) ≡ after ofVec3 (now (out .entry)) (Vectors.negationDue (vec3 (now (a .entry)))) ⌝ }
 {
@@ -63,7 +63,7 @@ pub extern "C" fn jr_negation(a: &[f64; 3], out: &mut [f64; 3]) -> u32
 
 // The vector a times the number k.
 #[no_mangle]
-pub extern "C" fn jr_times(a: &[f64; 3], k: f64, out: &mut [f64; 3]) -> u32
+pub extern "C" fn jr_vec3_times(a: &[f64; 3], k: f64, out: &mut [f64; 3]) -> u32
     ensures number { λ r. ⌜ r ≡ numberOf (Vectors.timesDue (vec3 (now (a .entry))) k) ⌝ }
     ensures out { λ _. ⌜ now (out .exit) ≡ after ofVec3 (now (out .entry)) (Vectors.timesDue (vec3 (now (a .entry))) k) ⌝ }
 {
@@ -73,7 +73,7 @@ pub extern "C" fn jr_times(a: &[f64; 3], k: f64, out: &mut [f64; 3]) -> u32
 
 // Which coordinate of a is the largest in magnitude, 0, 1 or 2, the first of equal ones.
 #[no_mangle]
-pub extern "C" fn jr_dominant_axis(a: &[f64; 3], out: &mut [u64; 1]) -> u32
+pub extern "C" fn jr_vec3_dominant_axis(a: &[f64; 3], out: &mut [u64; 1]) -> u32
     ensures number { λ r. ⌜ r ≡ numberOf (Vectors.dominantAxisDue (vec3 (now (a .entry)))) ⌝ }
     ensures out { λ _. ⌜ now (out .exit) ≡ after alone (now (out .entry)) (Vectors.dominantAxisDue (vec3 (now (a .entry)))) ⌝ }
 {

@@ -20,12 +20,12 @@ use crate::inputs::three;
 use crate::inputs::twelve;
 use crate::inputs::two;
 use answer_lines::pattern;
-use exports::of_arcs::jr_at;
-use exports::of_arcs::jr_extend_bounds;
+use exports::of_arcs::jr_arc_at;
+use exports::of_arcs::jr_arc_extend_bounds;
+use exports::of_arcs::jr_arc_reversed;
+use exports::of_arcs::jr_arc_sweep;
 use exports::of_arcs::jr_per_turn;
-use exports::of_arcs::jr_reversed;
-use exports::of_arcs::jr_sweep;
-use exports::of_arcs::jr_turn;
+use exports::of_arcs::jr_profile_arc_turn;
 use exports::of_arcs::jr_unit;
 use exports::of_developments::jr_development_along;
 use exports::of_developments::jr_development_moved;
@@ -35,10 +35,10 @@ use exports::of_developments::jr_development_unroll;
 use exports::of_frames::jr_cone_frame;
 use exports::of_frames::jr_frame_angle;
 use exports::of_frames::jr_frame_point;
-use exports::of_motions::jr_apply;
-use exports::of_motions::jr_apply_vector;
-use exports::of_motions::jr_frame;
-use exports::of_motions::jr_rotation;
+use exports::of_motions::jr_rigid_apply;
+use exports::of_motions::jr_rigid_apply_vector;
+use exports::of_motions::jr_rigid_frame;
+use exports::of_motions::jr_rigid_rotation;
 use exports::of_numbers::jr_acos;
 use exports::of_numbers::jr_atan2;
 use exports::of_numbers::jr_ceil;
@@ -51,13 +51,13 @@ use exports::of_traces::jr_meet_point;
 use exports::of_traces::jr_trace_v;
 use exports::of_traces::jr_wave_at;
 use exports::of_traces::jr_wave_range;
-use exports::of_vectors::jr_cross;
-use exports::of_vectors::jr_difference;
-use exports::of_vectors::jr_dominant_axis;
-use exports::of_vectors::jr_dot;
-use exports::of_vectors::jr_negation;
-use exports::of_vectors::jr_sum;
-use exports::of_vectors::jr_times;
+use exports::of_vectors::jr_vec3_cross;
+use exports::of_vectors::jr_vec3_difference;
+use exports::of_vectors::jr_vec3_dominant_axis;
+use exports::of_vectors::jr_vec3_dot;
+use exports::of_vectors::jr_vec3_negation;
+use exports::of_vectors::jr_vec3_sum;
+use exports::of_vectors::jr_vec3_times;
 
 fn of_numbers(operation: u64, line: &[u8]) -> bool {
     let x = number(line, 0);
@@ -89,37 +89,37 @@ fn of_vectors(operation: u64, line: &[u8]) -> bool {
     match operation {
         9 => {
             let mut out = [0.0; 1];
-            let r = jr_dot(&a, &b, &mut out);
+            let r = jr_vec3_dot(&a, &b, &mut out);
             is_1(line, 6, r, &out)
         }
         10 => {
             let mut out = [0.0; 3];
-            let r = jr_cross(&a, &b, &mut out);
+            let r = jr_vec3_cross(&a, &b, &mut out);
             is_3(line, 6, r, &out)
         }
         11 => {
             let mut out = [0.0; 3];
-            let r = jr_sum(&a, &b, &mut out);
+            let r = jr_vec3_sum(&a, &b, &mut out);
             is_3(line, 6, r, &out)
         }
         12 => {
             let mut out = [0.0; 3];
-            let r = jr_difference(&a, &b, &mut out);
+            let r = jr_vec3_difference(&a, &b, &mut out);
             is_3(line, 6, r, &out)
         }
         13 => {
             let mut out = [0.0; 3];
-            let r = jr_negation(&a, &mut out);
+            let r = jr_vec3_negation(&a, &mut out);
             is_3(line, 3, r, &out)
         }
         14 => {
             let mut out = [0.0; 3];
-            let r = jr_times(&a, number(line, 3), &mut out);
+            let r = jr_vec3_times(&a, number(line, 3), &mut out);
             is_3(line, 4, r, &out)
         }
         15 => {
             let mut out = [0; 1];
-            let r = jr_dominant_axis(&a, &mut out);
+            let r = jr_vec3_dominant_axis(&a, &mut out);
             is_count(line, 3, r, &out)
         }
         _ => false,
@@ -132,12 +132,12 @@ fn of_motions(operation: u64, line: &[u8]) -> bool {
     match operation {
         16 => {
             let mut out = [0.0; 12];
-            let r = jr_rotation(&three(line, 0), number(line, 3), &mut out);
+            let r = jr_rigid_rotation(&three(line, 0), number(line, 3), &mut out);
             is_12(line, 4, r, &out)
         }
         17 => {
             let mut out = [0.0; 12];
-            let r = jr_frame(
+            let r = jr_rigid_frame(
                 &three(line, 0),
                 &three(line, 3),
                 &three(line, 6),
@@ -148,12 +148,12 @@ fn of_motions(operation: u64, line: &[u8]) -> bool {
         }
         18 => {
             let mut out = [0.0; 3];
-            let r = jr_apply(&m, &p, &mut out);
+            let r = jr_rigid_apply(&m, &p, &mut out);
             is_3(line, 15, r, &out)
         }
         19 => {
             let mut out = [0.0; 3];
-            let r = jr_apply_vector(&m, &p, &mut out);
+            let r = jr_rigid_apply_vector(&m, &p, &mut out);
             is_3(line, 15, r, &out)
         }
         _ => false,
@@ -164,7 +164,7 @@ fn of_turns(operation: u64, line: &[u8]) -> bool {
     match operation {
         20 => {
             let mut out = [0.0; 1];
-            let r = jr_turn(
+            let r = jr_profile_arc_turn(
                 &two(line, 0),
                 pattern(line, 2) == 1,
                 &two(line, 3),
@@ -194,23 +194,23 @@ fn of_arcs(operation: u64, line: &[u8]) -> bool {
     match operation {
         23 => {
             let mut out = [0.0; 7];
-            let r = jr_reversed(&a, &mut out);
+            let r = jr_arc_reversed(&a, &mut out);
             is_7(line, 7, r, &out)
         }
         24 => {
             let mut out = [0.0; 1];
-            let r = jr_sweep(&a, &from, &to, &mut out);
+            let r = jr_arc_sweep(&a, &from, &to, &mut out);
             is_1(line, 13, r, &out)
         }
         25 => {
             let mut out = [0.0; 3];
-            let r = jr_at(&a, &from, number(line, 10), &mut out);
+            let r = jr_arc_at(&a, &from, number(line, 10), &mut out);
             is_3(line, 11, r, &out)
         }
         26 => replay_rows::is_alike(operation, line),
         27 => {
             let mut out = six(line, 13);
-            let r = jr_extend_bounds(&a, &from, &to, &mut out);
+            let r = jr_arc_extend_bounds(&a, &from, &to, &mut out);
             is_6(line, 19, r, &out)
         }
         _ => false,
