@@ -1,4 +1,4 @@
-// Constants of the code, given back beside the definitions that they equal: a program that wants
+// Constants of the code, given back beside the papers' figures that they equal: a program that wants
 // them takes them from their own crates.
 ghost use mathlib.Core.Path.{_≡_};
 ghost use Rattle.vectors.specs.Vectors.{origin};
@@ -19,6 +19,8 @@ use checked::PIECE_ON_CONE;
 use checked::ROW_TOO_SHORT;
 use checked::TAU;
 use chord_counts::counts;
+use integrals::NODES;
+use integrals::WEIGHTS;
 use vectors::Vec3;
 
 // The refusals in the order of their numbers.
@@ -45,6 +47,19 @@ pub fn angles() -> [f64; 3]
     ensures { λ r. ⌜ r ≡ Constants.angles ⌝ }
 {
     [PI, TAU, FRAC_PI_4]
+}
+
+// The nodes of the rule of Gauss and Legendre.
+pub fn nodes() -> [f64; 4]
+    ensures { λ r. ⌜ r ≡ Constants.nodes ⌝ }
+{
+    NODES
+}
+
+pub fn weights() -> [f64; 4]
+    ensures { λ r. ⌜ r ≡ Constants.weights ⌝ }
+{
+    WEIGHTS
 }
 
 pub fn zero() -> Vec3

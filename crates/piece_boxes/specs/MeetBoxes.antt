@@ -15,6 +15,13 @@ use Rattle.piece_curves.specs.Courses.{slopeUC, slopeVC, pointC}
 use Rattle.piece_boxes.specs.declared.brackets.FlatBox.{FlatBox}
 use Rattle.piece_boxes.specs.Windows.{placeC, widened, windowC}
 
+-- the samples, and the windows between them
+abbrev pub SAMPLES : ℕ
+SAMPLES = 65
+
+abbrev pub WINDOWS : ℕ
+WINDOWS = 64
+
 -- the derivatives at place k
 unfoldable pub sampleC : Course → ℕ → Checked Vec2
 sampleC c k = do
@@ -25,7 +32,7 @@ sampleC c k = do
 
 -- the first and the last place
 unfoldable pub isEnd : ℕ → Bool
-isEnd k = eqb k 0 || eqb k 64
+isEnd k = eqb k 0 || eqb k WINDOWS
 
 -- there the point is read too
 unfoldable pub endC : Course → ℕ → FlatBox → Checked FlatBox
@@ -49,7 +56,7 @@ empty = record { low = plane (inf false) (inf false); high = plane (inf true) (i
 
 -- all samples, and the box of the two ends
 unfoldable pub startC : Course → Checked FlatBox
-startC c = foldC 65 (stepC c) empty
+startC c = foldC SAMPLES (stepC c) empty
 
 -- between the places k and k + 1: where u turns, then where v does
 unfoldable pub spanC : Course → ℕ → FlatBox → Checked FlatBox
@@ -61,7 +68,7 @@ spanC c k b = do
 unfoldable pub boxC : Course → Checked FlatBox
 boxC c = do
   b ← startC c
-  foldC 64 (spanC c) b
+  foldC WINDOWS (spanC c) b
 
 -- ---- the code's rows hold the derivatives at the first n places
 pub record Stored (c : Course) (n : ℕ) (us vs : List Float) : Type 0 where

@@ -13,7 +13,7 @@ use Rattle.piece_curves.specs.Courses.{slopeUC, slopeVC, pointC}
 use Rattle.piece_boxes.specs.declared.brackets.Gap.{Gap}
 use Rattle.piece_boxes.specs.declared.brackets.FlatBox.{FlatBox}
 
--- 64
+-- 64, one fewer than the samples
 abbrev pub intervals : Float
 intervals = literal 0x4050_0000_0000_0000
 
@@ -30,6 +30,10 @@ unfoldable pub agree : Bool → Bool → Bool
 agree p q = cond q p (not p)
 
 -- ---- halvings
+-- of each gap in which a derivative changes sign
+abbrev pub HALVINGS : ℕ
+HALVINGS = 60
+
 -- the half of a gap up to m, or from there on, by the derivative at m
 unfoldable pub chosen : Gap → Float → Float → Bool → Gap
 chosen g m d rising = cond (agree (lt zero d) rising) (record { lo = g .lo; hi = m }) (record { lo = m; hi = g .hi })
@@ -42,7 +46,7 @@ halveC c upright rising g = do
   given (chosen g m d rising)
 
 unfoldable pub halvedC : Course → Bool → Bool → Gap → Checked Gap
-halvedC c upright rising g = foldC 60 (λ i a. halveC c upright rising a) g
+halvedC c upright rising g = foldC HALVINGS (λ i a. halveC c upright rising a) g
 
 -- the point in the middle of what is left
 unfoldable pub turningC : Course → Bool → Bool → Gap → Checked Vec2

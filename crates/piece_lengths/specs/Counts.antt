@@ -80,9 +80,13 @@ sampleC c k a = do
   h ← hypotC (num (d .x)) (num (d .y))
   given (greatest a h)
 
--- a meet by the greatest of 257 second derivatives
+-- the second derivatives that a meet is judged by, at every 256th of t
+abbrev pub SAMPLES : ℕ
+SAMPLES = 257
+
+-- the greatest of them
 unfoldable pub bendC : Course → Checked Float
-bendC c = foldC 257 (sampleC c) zero
+bendC c = foldC SAMPLES (sampleC c) zero
 
 unfoldable pub meetLineC : Course → Float → Checked ℕ
 meetLineC c deviation = do

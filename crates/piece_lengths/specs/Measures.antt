@@ -23,8 +23,14 @@ distanceC a b = do
   y ← num (b .y) ⊖ num (a .y)
   finite (hypot x y)
 
--- ---- a trace, as 32 chords
--- 32
+-- ---- a trace, as 32 chords between 33 places
+abbrev pub CHORDS : ℕ
+CHORDS = 32
+
+abbrev pub PLACES : ℕ
+PLACES = 33
+
+-- the same as a float
 abbrev pub steps : Float
 steps = literal 0x4040_0000_0000_0000
 
@@ -36,7 +42,7 @@ placeC r k = do
 
 -- all of them, which come before the first chord
 unfoldable pub placesC : Run → Checked Place
-placesC r = foldC 33 (λ k p. placeC r k) (placeC r 0 .value)
+placesC r = foldC PLACES (λ k p. placeC r k) (placeC r 0 .value)
 
 -- a length and the chord from a to b
 unfoldable pub longerC : Float → Vec2 → Vec2 → Checked Float
@@ -49,10 +55,10 @@ furtherC s u v = do
   num s ⊕ num (fabs a)
 
 unfoldable pub lengthC : Run → Checked Float
-lengthC r = foldC 32 (λ k s. longerC s (placeC r k .value .p) (placeC r (k + 1) .value .p)) zero
+lengthC r = foldC CHORDS (λ k s. longerC s (placeC r k .value .p) (placeC r (k + 1) .value .p)) zero
 
 unfoldable pub turnedC : Run → Checked Float
-turnedC r = foldC 32 (λ k s. furtherC s (placeC r k .value .d) (placeC r (k + 1) .value .d)) zero
+turnedC r = foldC CHORDS (λ k s. furtherC s (placeC r k .value .d) (placeC r (k + 1) .value .d)) zero
 
 unfoldable pub tracedC : Run → Checked Measure
 tracedC r = do
