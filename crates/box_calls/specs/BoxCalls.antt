@@ -9,7 +9,7 @@ use Rattle.checked.specs.Checked.{Checked, Due, unless}
 use Rattle.checked.specs.Handed.{fails, passing}
 use Rattle.vectors.specs.declared.Vec3.{Vec3}
 use Rattle.boxes.specs.declared.Bounds.{Bounds}
-use Rattle.boxes.specs.Boxes.{free, passed, Sound, boxCall, after}
+use Rattle.boxes.specs.Boxes.{free, empty, passed, Sound, boxCall, after}
 use Rattle.boxes.specs.Demand3 as Demand3
 use Rattle.boxes.specs.Demand3.{answer, Met, SameAccepted, SameBox}
 use Rattle.arcs.specs.declared.Arc.{Arc}
@@ -64,11 +64,14 @@ handed e = curves.handed (e .curve) (e .from) (e .to)
 abbrev pub points : Edge → Checked (List Vec3)
 points e = pointsC (e .curve) (e .from) (e .to)
 
--- From the first box b, after the calls cs: box and answers are those of their edges, of which `Met` says what they are.
+-- From the first box b, after the calls cs:
+-- leave: the box is that of their edges, of which `met` says that it is the least and greatest of the first corners and of
+-- the accepted edges' ends and extreme points;
+-- each: each call is accepted, or refused with its number, as it is due on the empty box.
 pub record CallsMet (b : Bounds) (cs : List Call) : Type 0 where
   pub leave : run b cs ≡ Demand3.run handed points b (map edge cs)
-  pub answer : answers b cs ≡ Demand3.answers handed points b (map edge cs)
   pub met : Met handed points b (map edge cs)
+  pub each : answers b cs ≡ map (λ c. answer (callDue c empty)) cs
 
 -- ================ the proof
 
@@ -98,12 +101,18 @@ answers-are b (c ∷ cs) =
     ap (λ (rest : List (Due Unit)). answer (callDue c b) ∷ rest) (answers-are (after b (callDue c b)) cs)
     ∙ ap (λ (d : Due Bounds). answer d ∷ Demand3.answers handed points (after b d) (map edge cs)) (sym (one-edge c b))
 
+edges-each : (cs : List Call) → map (λ e. answer (call empty e)) (map edge cs) ≡ map (λ c. answer (callDue c empty)) cs
+edges-each [] = refl
+edges-each (c ∷ cs) = ap₂ (λ (d : Due Bounds) (rest : List (Due Unit)). answer d ∷ rest) (one-edge c empty) (edges-each cs)
+
 sound : (e : Edge) → handed e ≡ passed → Sound (points e)
 sound e h = curves-laws.points-sound (e .curve) (e .from) (e .to)
 
 -- every list of box calls, from every box free of NaN
 pub box-calls-met : (b : Bounds) → T (free b) → (cs : List Call) → CallsMet b cs
-box-calls-met b F cs = record { leave = run-is b cs; answer = answers-are b cs; met = Demand3.all-lists handed points sound b F (map edge cs) }
+box-calls-met b F cs =
+    let met = Demand3.all-lists handed points sound b F (map edge cs) in
+    record { leave = run-is b cs; met = met; each = answers-are b cs ∙ (met .each ∙ edges-each cs) }
 
 -- the same accepted edges, in whatever order, however often and by whichever entries, leave the same box
 pub same-box : (b : Bounds) → T (free b) → (cs ds : List Call) → SameAccepted handed points (map edge cs) (map edge ds) → SameBox (run b cs) (run b ds)

@@ -19,7 +19,7 @@ use Rattle.boxes.specs.Laws.{empty-free}
 use Rattle.boxes.specs.Demand3.{answer}
 use Rattle.arcs.specs.Sweeps.{endsWithin}
 use Rattle.arcs.specs.Entries.{points}
-use Rattle.box_calls.specs.BoxCalls.{call, arc-call}
+use Rattle.box_calls.specs.BoxCalls.{callDue}
 use Rattle.decimals.specs.Thousandths.{thousandths, nearest-up, most, signed}
 use Rattle.edge_lines.specs.Lines.{bytes, spaced, corner, emptyLine, refusedLine, cornersLine, boxLine}
 use Rattle.edge_records.specs.declared.Edge.{Edge}
@@ -45,11 +45,10 @@ pub data Line : List ℕ → Type 0 where
 -- ================ the proof
 
 -- ---- a box call with an arc in range is accepted on the empty box
-accepted : (e : Edge) → T (endsWithin (e .arc .center) (e .arc .axis) (e .arc .radius) (e .from) (e .to)) → answer (call empty (asCall e)) ≡ passed
+accepted : (e : Edge) → T (endsWithin (e .arc .center) (e .arc .axis) (e .arc .radius) (e .from) (e .to)) → answer (callDue (asCall e) empty) ≡ passed
 accepted e h =
     ap answer (
-    arc-call empty (e .arc) (e .from) (e .to)
-    ∙ extend-answer (e .arc) (e .from) (e .to) empty
+    extend-answer (e .arc) (e .from) (e .to) empty
     ∙ λ i. unless OUT-OF-RANGE (is-true (endsWithin (e .arc .center) (e .arc .axis) (e .arc .radius) (e .from) (e .to)) h i) (unless BAD-BOX-OR-SUMS (is-true (free empty) empty-free i) (due (widenedBy empty (points (e .arc) (e .from) (e .to) .value))))
     )
 

@@ -17,10 +17,10 @@ use Rattle.vectors.specs.declared.Vec3.{Vec3}
 use Rattle.boxes.specs.declared.Bounds.{Bounds}
 use Rattle.boxes.specs.Boxes.{Axis, X, Y, Z, at, free, empty, after, passed}
 use Rattle.boxes.specs.Laws.{empty-free}
-use Rattle.boxes.specs.Demand3.{answer, run, answers, SameAccepted, SameBox}
+use Rattle.boxes.specs.Demand3.{answer, SameAccepted, SameBox}
 use Rattle.arcs.specs.Entries.{extendDue}
 use Rattle.box_calls.specs.BoxCalls as calls
-use Rattle.box_calls.specs.BoxCalls.{ArcEdge, handed, points, call, arc-call, box-calls-met}
+use Rattle.box_calls.specs.BoxCalls.{Call, ByArc, edge, callDue, run, answers, handed, points, box-calls-met}
 use Rattle.decimals.specs.Thousandths.{thousandths, nearest-up, counted}
 use Rattle.edge_lines.specs.Lines.{corner, boxLine, emptyLine}
 use Rattle.edge_records.specs.declared.Edge.{Edge}
@@ -34,8 +34,8 @@ use Rattle.edge_file.specs.EdgeFile.{nothing, next, callOf, printed, ended, cal
 -- ================ the claim
 
 -- the box call that a record asks for
-abbrev pub asCall : Edge → calls.Edge
-asCall e = ArcEdge (e .arc) (e .from) (e .to)
+abbrev pub asCall : Edge → Call
+asCall e = ByArc (e .arc) (e .from) (e .to)
 
 -- a file that holds these arcs, then its end record and nothing more
 pub data FileOf : List ℕ → List Edge → Type 0 where
@@ -45,11 +45,11 @@ pub data FileOf : List ℕ → List Edge → Type 0 where
 -- each is accepted on the empty box
 abbrev pub NoneRefused : List Edge → Type 0
 NoneRefused [] = Unit
-NoneRefused (e ∷ es) = (answer (call empty (asCall e)) ≡ passed) × NoneRefused es
+NoneRefused (e ∷ es) = (answer (callDue (asCall e) empty) ≡ passed) × NoneRefused es
 
 -- the box that the calls leave of the empty box
 abbrev pub boxOf : List Edge → Bounds
-boxOf es = run handed points empty (map asCall es)
+boxOf es = run empty (map asCall es)
 
 -- the number of the end record
 abbrev pub endAfter : ℕ → List Edge → ℕ
@@ -65,7 +65,7 @@ pub record Printed (file : List ℕ) (es : List Edge) : Type 0 where
 -- ---- along the file
 abbrev seenAfter : Seen → List Edge → Seen
 seenAfter seen [] = seen
-seenAfter seen (e ∷ es) = seenAfter (record { «has_edge» = true; bounds = after (seen .bounds) (call (seen .bounds) (asCall e)) }) es
+seenAfter seen (e ∷ es) = seenAfter (record { «has_edge» = true; bounds = after (seen .bounds) (callDue (asCall e) (seen .bounds)) }) es
 
 abbrev allDue : List Edge → List (Due Unit)
 allDue [] = []
@@ -81,7 +81,7 @@ goes-on : (on : Seen → List ℕ) (k : ℕ) (b : Bounds) (d : Due Bounds) → a
 goes-on on k b (due c) e = refl
 goes-on on k b (refused n) e = absurd (let z : _≡_ {A = ℕ} 0 1 = cc in omega arith)
 
-along : (n : ℕ) {file : List ℕ} {es : List Edge} → FileOf file es → (seen : Seen) (k : ℕ) → length es < n → answers handed points (seen .bounds) (map asCall es) ≡ allDue es
+along : (n : ℕ) {file : List ℕ} {es : List Edge} → FileOf file es → (seen : Seen) (k : ℕ) → length es < n → answers (seen .bounds) (map asCall es) ≡ allDue es
     → lineFrom n seen k file ≡ printed (seenAfter seen es) (endAfter k es)
 unfolding lineFrom answers extendDue
 along zero f seen k h a = absurd (omega arith)
@@ -92,7 +92,7 @@ along (suc n) {file} (arc {e = e} {es = es} r f) seen k h a =
     let rest = tail-of _ _ _ _ a in
     ap (byRecord (lineFrom n) seen k (drop (sizeOf file) file)) r
     ∙ goes-on (λ s. lineFrom n s (next k) (drop (sizeOf file) file)) k (seen .bounds) (callOf e (seen .bounds)) mine
-    ∙ along n f (record { «has_edge» = true; bounds = after (seen .bounds) (call (seen .bounds) (asCall e)) }) (next k) (omega arith) rest
+    ∙ along n f (record { «has_edge» = true; bounds = after (seen .bounds) (callDue (asCall e) (seen .bounds)) }) (next k) (omega arith) rest
 
 -- a file has more bytes than arcs
 longer : {file : List ℕ} {es : List Edge} → FileOf file es → length es < length file
@@ -106,7 +106,7 @@ longer {file} (arc {es = es} r f) = more (sizeOf file) (length file) (subst (λ 
     more n m e h l = omega arith
 
 -- the answers of a list none of which is refused
-all-due : (es : List Edge) → NoneRefused es → map (λ e. answer (call empty e)) (map asCall es) ≡ allDue es
+all-due : (es : List Edge) → NoneRefused es → map (λ c. answer (callDue c empty)) (map asCall es) ≡ allDue es
 all-due [] h = refl
 all-due (e ∷ es) h = ap₂ (λ (x : Due Unit) (xs : List (Due Unit)). x ∷ xs) (h .0) (all-due es (h .1))
 
@@ -114,7 +114,7 @@ has-edge : (seen : Seen) (es : List Edge) → seen .«has_edge» ≡ true → se
 has-edge seen [] h = h
 has-edge seen (e ∷ es) h = has-edge _ es refl
 
-box-after : (seen : Seen) (es : List Edge) → seenAfter seen es .bounds ≡ run handed points (seen .bounds) (map asCall es)
+box-after : (seen : Seen) (es : List Edge) → seenAfter seen es .bounds ≡ run (seen .bounds) (map asCall es)
 unfolding run
 box-after seen [] = refl
 box-after seen (e ∷ es) = box-after _ es
@@ -171,7 +171,7 @@ same-corners a b c d j k p q r s t u e = rw (p, q, r, s, t, u, e)
 -- Two files of the same arcs, none of them refused, and of the same number of records print the
 -- same line, whichever arc stands first.
 pub one-line : {f g : List ℕ} (c e : Edge) (cs es : List Edge) → FileOf f (c ∷ cs) → FileOf g (e ∷ es) → NoneRefused (c ∷ cs) → NoneRefused (e ∷ es)
-    → SameAccepted handed points (map asCall (c ∷ cs)) (map asCall (e ∷ es)) → endAfter 1 (c ∷ cs) ≡ endAfter 1 (e ∷ es) → lineOf f ≡ lineOf g
+    → SameAccepted handed points (map edge (map asCall (c ∷ cs))) (map edge (map asCall (e ∷ es))) → endAfter 1 (c ∷ cs) ≡ endAfter 1 (e ∷ es) → lineOf f ≡ lineOf g
 one-line c e cs es F G H J A n =
     let b = calls.same-box empty empty-free (map asCall (c ∷ cs)) (map asCall (e ∷ es)) A in
     file-line c cs F H .line
