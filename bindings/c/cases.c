@@ -78,6 +78,7 @@ static const double zero[3] = {0, 0, 0}, x[3] = {1, 0, 0}, y[3] = {0, 1, 0}, z[3
 
 static void numbers(void)
 {
+    NUMBER(jr_layout_1(), 1);
     NUMBER(jr_sqrt(2.25), 1.5);
     NUMBER(jr_ceil(1.25), 2);
     NUMBER(jr_round(-2.5), -3);
@@ -294,6 +295,269 @@ static void faces(void)
     answered(__LINE__, jr_revolution_add_piece(taper, zero, top, JR_ARC_NONE, JR_TRACE_NONE, NO_SUMS), JR_PIECE_ON_CONE);
 }
 
+/* Numbers put into an array from a place on. */
+static void put(double *array, int at, int count, ...)
+{
+    va_list numbers;
+    va_start(numbers, count);
+    for (int k = 0; k < count; k++)
+        array[at + k] = va_arg(numbers, double);
+    va_end(numbers);
+}
+
+/* So many numbers of an array are due from a place on. */
+static void there(int line, const double *array, int at, int count, ...)
+{
+    va_list due;
+    va_start(due, count);
+    for (int k = 0; k < count; k++)
+        number(line, array[at + k], va_arg(due, double));
+    va_end(due);
+}
+
+static void accepted(int line, uint32_t got)
+{
+    answered(line, got, JR_OK);
+}
+
+#define THERE(array, ...) there(__LINE__, array, __VA_ARGS__)
+#define ACCEPTED(call) accepted(__LINE__, call)
+
+/* The box of a piece at v = 1 from one angle to another about z, neutral radius and radius being r. */
+static void turned(double r, double from, double to, double box[JR_BOUNDS])
+{
+    const double w[JR_CURVE] = {0, 0, 0, 0, 0, 1, 1, 0, 0, r, from * r, 1, to * r, 1, 0, 0, 0, 0, 0, 0, 0, 0, 0, 0, 0, 0, r};
+    ACCEPTED(jr_curve_extend_bounds(w, JR_CURVE_PIECE, JR_ARC_NONE, JR_TRACE_NONE, zero, zero, box));
+}
+
+/* Once around, the box is whole or has no width, by how u over the neutral radius rounds; in halves it is
+   whole. */
+static void once_around(void)
+{
+    double whole28[JR_BOUNDS] = {28, 0, 1, 28, 0, 1}, whole52[JR_BOUNDS] = {52, 0, 1, 52, 0, 1};
+    turned(28, 0, 2 * PI, whole28);
+    THERE(whole28, 0, 6, -28.0, -28.0, 1.0, 28.0, 28.0, 1.0);
+    turned(52, 0, 2 * PI, whole52);
+    THERE(whole52, 0, 6, 52.0, 0.0, 1.0, 52.0, 0.0, 1.0);
+    turned(52, 0, PI, whole52);
+    turned(52, PI, 2 * PI, whole52);
+    THERE(whole52, 0, 6, -52.0, -52.0, 1.0, 52.0, 52.0, 1.0);
+}
+
+/* Each place by its name, in calls whose answers another place would change. */
+static const double side[3] = {6, 2, 3};
+
+static void places_of_arcs(void)
+{
+    double m[JR_RIGID], a[JR_ARC], box[JR_BOUNDS], got[3];
+    put(m, JR_RIGID_X, 3, 0.0, -1.0, 0.0);
+    put(m, JR_RIGID_Y, 3, 0.0, 0.0, -1.0);
+    put(m, JR_RIGID_Z, 3, 1.0, 0.0, 0.0);
+    put(m, JR_RIGID_SHIFT, 3, 10.0, 20.0, 30.0);
+    ACCEPTED(jr_rigid_apply(m, side, got));
+    THERE(got, 0, 3, 8.0, 17.0, 36.0);
+    put(a, JR_ARC_CENTER, 3, 1.0, 2.0, 3.0);
+    put(a, JR_ARC_AXIS, 3, 0.0, 1.0, 0.0);
+    put(a, JR_ARC_RADIUS, 1, 4.0);
+    ACCEPTED(jr_arc_at(a, side, PI / 2, got));
+    THERE(got, 0, 3, 1.0, 2.0, -1.0);
+    put(box, JR_BOUNDS_LOW, 3, 0.0, 0.0, 0.0);
+    put(box, JR_BOUNDS_HIGH, 3, 1.0, 1.0, 1.0);
+    ACCEPTED(jr_arc_extend_bounds(a, side, side, box));
+    THERE(box, JR_BOUNDS_LOW, 3, -3.0, 0.0, -1.0);
+    THERE(box, JR_BOUNDS_HIGH, 3, 6.0, 2.0, 7.0);
+}
+
+/* A sheet of neutral radius 10 about the line through (1, 2, 3) along y; u begins towards z and turns
+   towards x. */
+static void put_sheet(double *dev)
+{
+    put(dev, JR_DEVELOPMENT_ORIGIN, 3, 1.0, 2.0, 3.0);
+    put(dev, JR_DEVELOPMENT_AXIS, 3, 0.0, 1.0, 0.0);
+    put(dev, JR_DEVELOPMENT_START, 3, 0.0, 0.0, 1.0);
+    put(dev, JR_DEVELOPMENT_NEUTRAL, 1, 10.0);
+}
+
+static void places_of_developments(void)
+{
+    const double quarter[2] = {5 * PI, 7};
+    double dev[JR_DEVELOPMENT], wave[JR_WAVE], p[3], got[3];
+    put_sheet(dev);
+    ACCEPTED(jr_development_point(dev, quarter, 4, p));
+    THERE(p, 0, 3, 5.0, 9.0, 3.0);
+    ACCEPTED(jr_development_unroll(dev, p, 0, got));
+    THERE(got, JR_UNROLLED_UV, 2, 5 * PI, 7.0);
+    THERE(got, JR_UNROLLED_RADIUS, 1, 4.0);
+    put(wave, JR_WAVE_A, 1, 2.0);
+    put(wave, JR_WAVE_B, 1, 30.0);
+    put(wave, JR_WAVE_C, 1, 400.0);
+    ACCEPTED(jr_wave_at(wave, 0, 10, got));
+    THERE(got, 0, 3, 32.0, 40.0, -0.3);
+}
+
+/* A hole for a branch of radius 3 along -x in a pipe of radius 10, from an angle of 0 to half a turn. */
+static void places_of_meets(void)
+{
+    const double u = 10 * jr_atan2(3, jr_sqrt(91));
+    double w[JR_PIECE] = {0}, got[9], *meet = w + JR_PIECE_TRACE;
+    put_sheet(w + JR_PIECE_DEV);
+    put(w, JR_PIECE_FROM, 2, -u, 5.0);
+    put(w, JR_PIECE_TO, 2, u, 5.0);
+    put(meet, JR_MEET_ORIGIN, 3, 20.0, 0.0, 5.0);
+    put(meet, JR_MEET_AXIS, 3, -1.0, 0.0, 0.0);
+    put(meet, JR_MEET_RADIUS, 1, 3.0);
+    put(meet, JR_MEET_OWN, 1, 10.0);
+    put(meet, JR_MEET_TURN, 2, 0.0, PI);
+    ACCEPTED(jr_meet_point(meet, JR_TURN_ANGLES, 0, 10, got));
+    THERE(got, 0, 3, jr_sqrt(91), -3.0, 5.0);
+    for (int k = 0; k < 3; k++) {
+        ACCEPTED(jr_piece_at(w, JR_ARC_NONE, JR_TRACE_MEET_TURN, 0.5 * k, got));
+        THERE(got, JR_PIECE_AT_POINT, 2, (k - 1) * u, k == 1 ? 8.0 : 5.0);
+    }
+}
+
+/* Half a circle of radius 2 about (1, 2), then a segment over a quarter turn, 6 away from the axis. */
+static void places_of_pieces(void)
+{
+    double c[JR_CURVE] = {0}, got[4], box[JR_BOUNDS] = {5, 5, 5, 5, 5, 5};
+    put_sheet(c + JR_PIECE_DEV);
+    put(c, JR_PIECE_FROM, 2, 3.0, 2.0);
+    put(c, JR_PIECE_TO, 2, -1.0, 2.0);
+    put(c, JR_PIECE_CENTER, 2, 1.0, 2.0);
+    ACCEPTED(jr_piece_at(c, JR_ARC_CCW, JR_TRACE_NONE, 0.5, got));
+    THERE(got, JR_PIECE_AT_POINT, 2, 1.0, 4.0);
+    THERE(got, JR_PIECE_AT_DERIVATIVE, 2, -2 * PI, 0.0);
+    ACCEPTED(jr_piece_uv_box(c, JR_ARC_CCW, JR_TRACE_NONE, got));
+    THERE(got, JR_UV_BOX_U, 2, -1.0, 3.0);
+    THERE(got, JR_UV_BOX_V, 2, 0.0, 4.0);
+    ACCEPTED(jr_piece_measure(c, JR_ARC_CCW, JR_TRACE_NONE, got));
+    THERE(got, JR_MEASURE_RADIUS, 1, 2.0);
+    THERE(got, JR_MEASURE_TURN, 1, PI);
+    THERE(got, JR_MEASURE_LENGTH, 1, 2 * PI);
+    put(c, JR_PIECE_FROM, 2, 0.0, 0.0);
+    put(c, JR_PIECE_TO, 2, 5 * PI, 4.0);
+    put(c, JR_CURVE_RADIUS, 1, 6.0);
+    ACCEPTED(jr_curve_extend_bounds(c, JR_CURVE_PIECE, JR_ARC_NONE, JR_TRACE_NONE, zero, zero, box));
+    THERE(box, JR_BOUNDS_LOW, 3, 1.0, 2.0, 3.0);
+    THERE(box, JR_BOUNDS_HIGH, 3, 7.0, 6.0, 9.0);
+}
+
+static void places_of_surfaces(void)
+{
+    const double up[3] = {6, 9, 3};
+    double plane[JR_SURFACE] = {0}, cylinder[JR_SURFACE] = {0}, cone[JR_SURFACE] = {0}, got[JR_SURFACE];
+    put(plane, JR_PLANE_ORIGIN, 3, 1.0, 2.0, 3.0);
+    put(plane, JR_PLANE_NORMAL, 3, 0.0, 5.0, 0.0);
+    ACCEPTED(jr_surface_moved(plane, JR_SURFACE_PLANE, true, 0, 0, move, got));
+    THERE(got, JR_PLANE_ORIGIN, 3, -1.0, 3.0, 6.0);
+    THERE(got, JR_PLANE_NORMAL, 3, -5.0, 0.0, 0.0);
+    put(cylinder, JR_CYLINDER_ORIGIN, 3, 1.0, 2.0, 3.0);
+    put(cylinder, JR_CYLINDER_AXIS, 3, 0.0, 1.0, 0.0);
+    put(cylinder, JR_CYLINDER_RADIUS, 1, 5.0);
+    ACCEPTED(jr_surface_normal_at(cylinder, JR_SURFACE_CYLINDER, true, 0, 0, up, got));
+    THERE(got, 0, 3, 1.0, 0.0, 0.0);
+    ACCEPTED(jr_surface_revolution(cylinder, JR_SURFACE_CYLINDER, true, 0, 0, got));
+    THERE(got, JR_CONE_RADIUS, 1, 5.0);
+    put(cone, JR_CONE_ORIGIN, 3, 1.0, 2.0, 3.0);
+    put(cone, JR_CONE_AXIS, 3, 0.0, 1.0, 0.0);
+    put(cone, JR_CONE_SLOPE, 1, 0.75);
+    ACCEPTED(jr_surface_normal_at(cone, JR_SURFACE_CONE, true, 0, 0, up, got));
+    THERE(got, 0, 3, 0.8, -0.6, 0.0);
+}
+
+/* The side of a cone from its origin, where its radius is 5, up to the height 4, where it is 8: the slant
+   is 5, and the normal lies 3 parts in 5 against the axis, 4 away from the origin. */
+static void places_of_faces(void)
+{
+    const double o[3] = {1, 2, 3}, p[3] = {9, 6, 3}, rim[JR_ARC] = {1, 6, 3, 0, -1, 0, 8};
+    double cone[JR_CONE], frame[JR_FRAME], sums[JR_SUMS], got[3];
+    put(cone, JR_CONE_ORIGIN, 3, 1.0, 2.0, 3.0);
+    put(cone, JR_CONE_AXIS, 3, 0.0, 1.0, 0.0);
+    put(cone, JR_CONE_RADIUS, 1, 5.0);
+    put(cone, JR_CONE_SLOPE, 1, 0.75);
+    ACCEPTED(jr_cone_frame(cone, frame));
+    THERE(frame, JR_FRAME_AXIS, 3, 0.0, 1.0, 0.0);
+    THERE(frame, JR_FRAME_ORIGIN, 3, 1.0, 2.0, 3.0);
+    THERE(frame, JR_FRAME_E1, 3, 1.0, 0.0, 0.0);
+    THERE(frame, JR_FRAME_E2, 3, 0.0, 0.0, -1.0);
+    ACCEPTED(jr_frame_point(frame, PI / 2, 10, 100, got));
+    THERE(got, 0, 3, 1.0, 12.0, -97.0);
+    ACCEPTED(jr_revolution_open(cone, o, sums));
+    ACCEPTED(jr_revolution_add_arc(cone, o, rim, p, p, sums));
+    THERE(sums, JR_SUMS_SIX_V, 1, 2 * 4 * 65 * PI);
+    THERE(sums, JR_SUMS_MOMENT, 3, 0.0, 6 * 4 * 140 * PI, 0.0);
+    THERE(sums, JR_SUMS_AREA, 1, 65 * PI);
+    THERE(sums, JR_SUMS_AREA_VECTOR, 3, 0.0, -39 * PI, 0.0);
+}
+
+/* A pipe about z with the radii 46 and 50 whose upper end is cut to fit a main pipe of radius 60 along x,
+   150 above its foot; o is no point of it. */
+enum { LOWER, UPPER };
+static const double o[3] = {7, -3, 11};
+
+/* An end of the pipe once around, towards greater u or towards lesser u, and its tag. */
+static uint32_t put_end(double *w, int end, bool greater)
+{
+    const double foot = end == LOWER ? 0 : 90, u[2] = {0, 96 * PI};
+    for (int k = 0; k < JR_PIECE; k++)
+        w[k] = 0;
+    put(w + JR_PIECE_DEV, JR_DEVELOPMENT_AXIS, 3, 0.0, 0.0, 1.0);
+    put(w + JR_PIECE_DEV, JR_DEVELOPMENT_START, 3, 1.0, 0.0, 0.0);
+    put(w + JR_PIECE_DEV, JR_DEVELOPMENT_NEUTRAL, 1, 48.0);
+    put(w, JR_PIECE_FROM, 2, u[!greater], foot);
+    put(w, JR_PIECE_TO, 2, u[greater], foot);
+    put(w + JR_PIECE_TRACE, JR_MEET_ORIGIN, 3, 0.0, 0.0, 150.0);
+    put(w + JR_PIECE_TRACE, JR_MEET_AXIS, 3, 1.0, 0.0, 0.0);
+    put(w + JR_PIECE_TRACE, JR_MEET_RADIUS, 1, 60.0);
+    put(w + JR_PIECE_TRACE, JR_MEET_OWN, 1, 1.0);
+    return end == LOWER ? JR_TRACE_NONE : JR_TRACE_MEET;
+}
+
+/* The side of a radius, which is the pipe's outer one or its bore. Seen from outside the body the face is
+   on the left of both edges. */
+static void add_side(double radius, bool convex, double *sums)
+{
+    const double c[JR_CONE] = {0, 0, 0, 0, 0, 1, radius, 0};
+    double w[JR_PIECE], running[JR_SUMS];
+    ACCEPTED(jr_revolution_open(c, o, running));
+    for (int end = LOWER; end <= UPPER; end++) {
+        uint32_t trace = put_end(w, end, (end == LOWER) == convex);
+        ACCEPTED(jr_revolution_add_piece(c, o, w, JR_ARC_NONE, trace, running));
+    }
+    ACCEPTED(jr_revolution_close(c, convex, running, sums));
+}
+
+/* The wall of an end, with the body on the right of the piece. */
+static void add_end(int end, double *sums)
+{
+    double w[JR_PIECE];
+    uint32_t trace = put_end(w, end, end == UPPER);
+    ACCEPTED(jr_wall(sums, w, JR_ARC_NONE, trace, 46, 50, o));
+}
+
+/* The volume is the pipe's cross section times the mean height of the cut, and the area vector is 0. */
+static void closed_body(void)
+{
+    double sums[JR_SUMS] = {0}, w[JR_PIECE], v[1], mean = 0;
+    put_end(w, UPPER, true);
+    for (int k = 0; k < 64; k++) {
+        ACCEPTED(jr_trace_v(w + JR_PIECE_TRACE, JR_TRACE_MEET, 96 * PI * k / 64, 48, v));
+        mean += v[0] / 64;
+    }
+    add_side(50, true, sums);
+    add_side(46, false, sums);
+    add_end(LOWER, sums);
+    add_end(UPPER, sums);
+    for (int k = 0; k < 3; k++)
+        NUMBER(1e-5 * sums[JR_SUMS_AREA_VECTOR + k], 0);
+    NUMBER(sums[JR_SUMS_SIX_V] / 6, PI * (50 * 50 - 46 * 46) * mean);
+    for (int k = 0; k < 2; k++)
+        NUMBER(1e-2 * (o[k] + sums[JR_SUMS_MOMENT + k] / (4 * sums[JR_SUMS_SIX_V])), 0);
+    /* One face run the wrong way is told by the area vector. */
+    add_end(LOWER, sums);
+    NUMBER(sums[JR_SUMS_AREA_VECTOR + 2], -PI * (50 * 50 - 46 * 46));
+}
+
 int main(void)
 {
     for (int k = 0; k < LENT; k++)
@@ -308,6 +572,14 @@ int main(void)
     curves();
     surfaces();
     faces();
+    once_around();
+    places_of_arcs();
+    places_of_developments();
+    places_of_meets();
+    places_of_pieces();
+    places_of_surfaces();
+    places_of_faces();
+    closed_body();
     printf("%d numbers and answers, %d wrong\n", cases, wrong);
     return wrong != 0;
 }

@@ -6,7 +6,8 @@
    A record is an array of numbers, laid out as said below. A function that answers by a uint32_t
    answers JR_OK, the result being written, or another of the numbers below, nothing being written.
    Every function takes every bit pattern of its numbers and finishes. Axes and normals are meant to
-   have length 1; nothing tests that, and what comes out is the formula's.
+   have length 1 and the ends of an arc to lie on it; nothing tests that, and what comes out is the
+   formula's.
 
    To know before the first call:
    - No pointer is null, and an array has at least the places in its brackets, read or not; a
@@ -19,7 +20,10 @@
      -Ofast, for the whole program; what is proved does not hold there.
    - The archive is for Linux on x86-64, any processor of that kind, and position-independent: it
      links into programs and shared libraries alike. Its names begin with jr_, those here with jr_
-     and JR_. */
+     and JR_. A program made for another layout of records and answers than the archive's does not
+     link: what is missing then is the name of the function jr_layout_N.
+
+   SPDX-License-Identifier: MIT OR Apache-2.0 */
 
 #ifndef JUNIPERREEF_H
 #define JUNIPERREEF_H
@@ -48,7 +52,10 @@ enum jr_answer {
                                     is not 0 */
     JR_ANGLE_TOO_LARGE = 8,      /* A finite angle above 1,048,576 in magnitude is due for a sine or
                                     cosine */
-    JR_NOT_FINITE = 9,           /* A number that the result depends on is not finite */
+    JR_NOT_FINITE = 9,           /* A number that the result depends on is not finite: a direction
+                                    of no length, a point on its axis, a pipe that is missed, or a
+                                    pipe that is only touched, as by a branch as wide as its main
+                                    pipe */
     JR_COUNT_TOO_LARGE = 10,     /* A count, or a corner to print, is above its limit */
     JR_MALFORMED_FILE = 11,      /* The bytes are not those of an edge file */
     JR_UNKNOWN_TAG = 254,        /* A tag is none of those below */
@@ -103,6 +110,65 @@ enum {
                             area, area vector (3) */
 };
 
+/* Where the parts of a record start, and how many numbers a part has. A part that is a record
+   itself has its own places from there: the axis of a piece's meet is at JR_PIECE_TRACE +
+   JR_MEET_AXIS. */
+enum {
+    JR_RIGID_X = 0,             /* 3 numbers */
+    JR_RIGID_Y = 3,             /* 3 numbers */
+    JR_RIGID_Z = 6,             /* 3 numbers */
+    JR_RIGID_SHIFT = 9,         /* 3 numbers */
+    JR_BOUNDS_LOW = 0,          /* 3 numbers */
+    JR_BOUNDS_HIGH = 3,         /* 3 numbers */
+    JR_ARC_CENTER = 0,          /* 3 numbers */
+    JR_ARC_AXIS = 3,            /* 3 numbers */
+    JR_ARC_RADIUS = 6,          /* 1 number */
+    JR_DEVELOPMENT_ORIGIN = 0,  /* 3 numbers */
+    JR_DEVELOPMENT_AXIS = 3,    /* 3 numbers */
+    JR_DEVELOPMENT_START = 6,   /* 3 numbers */
+    JR_DEVELOPMENT_NEUTRAL = 9, /* 1 number */
+    JR_WAVE_A = 0,              /* 1 number */
+    JR_WAVE_B = 1,              /* 1 number */
+    JR_WAVE_C = 2,              /* 1 number */
+    JR_MEET_ORIGIN = 0,         /* 3 numbers */
+    JR_MEET_AXIS = 3,           /* 3 numbers */
+    JR_MEET_RADIUS = 6,         /* 1 number */
+    JR_MEET_OWN = 7,            /* 1 number */
+    JR_MEET_TURN = 8,           /* 2 numbers */
+    JR_PIECE_DEV = 0,           /* 10 numbers */
+    JR_PIECE_FROM = 10,         /* 2 numbers */
+    JR_PIECE_TO = 12,           /* 2 numbers */
+    JR_PIECE_CENTER = 14,       /* 2 numbers */
+    JR_PIECE_TRACE = 16,        /* 10 numbers */
+    JR_CONE_ORIGIN = 0,         /* 3 numbers */
+    JR_CONE_AXIS = 3,           /* 3 numbers */
+    JR_CONE_RADIUS = 6,         /* 1 number */
+    JR_CONE_SLOPE = 7,          /* 1 number */
+    JR_FRAME_AXIS = 0,          /* 3 numbers */
+    JR_FRAME_ORIGIN = 3,        /* 3 numbers */
+    JR_FRAME_E1 = 6,            /* 3 numbers */
+    JR_FRAME_E2 = 9,            /* 3 numbers */
+    JR_SUMS_SIX_V = 0,          /* 1 number */
+    JR_SUMS_MOMENT = 1,         /* 3 numbers */
+    JR_SUMS_AREA = 4,           /* 1 number */
+    JR_SUMS_AREA_VECTOR = 5,    /* 3 numbers */
+    JR_CURVE_RADIUS = 26,       /* 1 number, a piece's */
+    JR_PLANE_ORIGIN = 0,        /* 3 numbers, a surface's */
+    JR_PLANE_NORMAL = 3,        /* 3 numbers, a surface's */
+    JR_CYLINDER_ORIGIN = 0,     /* 3 numbers, a surface's */
+    JR_CYLINDER_AXIS = 3,       /* 3 numbers, a surface's */
+    JR_CYLINDER_RADIUS = 6,     /* 1 number, a surface's */
+    JR_PIECE_AT_POINT = 0,      /* 2 numbers, what jr_piece_at writes */
+    JR_PIECE_AT_DERIVATIVE = 2, /* 2 numbers, what jr_piece_at writes */
+    JR_UV_BOX_U = 0,            /* 2 numbers, what jr_piece_uv_box writes */
+    JR_UV_BOX_V = 2,            /* 2 numbers, what jr_piece_uv_box writes */
+    JR_MEASURE_RADIUS = 0,      /* 1 number, what jr_piece_measure writes */
+    JR_MEASURE_TURN = 1,        /* 1 number, what jr_piece_measure writes */
+    JR_MEASURE_LENGTH = 2,      /* 1 number, what jr_piece_measure writes */
+    JR_UNROLLED_UV = 0,         /* 2 numbers, what jr_development_unroll writes */
+    JR_UNROLLED_RADIUS = 2,     /* 1 number, what jr_development_unroll writes */
+};
+
 /* A row that the inner points of any arc fit in: 63 points. A piece has one point fewer than
    `jr_piece_chords`, up to 65,534. */
 enum {
@@ -143,6 +209,23 @@ enum {
     JR_SURFACE_CONE = 2,
     JR_SURFACE_WALL = 3,
 };
+
+/* ---- The layout of records and answers */
+
+/* The number of this layout of arrays and answers, which is also in the name, so that a program
+   made for another one does not link. */
+uint32_t jr_layout_1(void);
+
+/* Every file that includes this header refers to that function: linked with an archive of another
+   layout, the program is refused by the linker, which says that there is no such name. */
+#if defined(__GNUC__)
+#if defined(__has_attribute)
+#if __has_attribute(retain)
+__attribute__((retain))
+#endif
+#endif
+__attribute__((used)) static uint32_t (*const jr_layout_due)(void) = jr_layout_1;
+#endif
 
 /* ---- Square root, rounding to whole numbers, and the functions of libm */
 
@@ -326,6 +409,11 @@ uint32_t jr_piece_chords(const double w[JR_PIECE], uint32_t arc, uint32_t trace,
 
 /* ---- Curves in space: an arc, or a piece of a development at a radius from its axis */
 
+/* A box holds a piece that runs over less than a turn about its axis. The points that widen it are
+   those of two arcs from the piece's least u to its greatest, and whether the ends of a turn are a
+   full circle or none is up to rounding: hand over a cut that runs once around in two halves, a
+   call each, as the example does. */
+
 /* The curve c run the other way, and to `tags` the tags `arc` and `trace` of a piece; an arc has
    none. */
 uint32_t jr_curve_reversed(const double c[JR_CURVE], uint32_t kind, uint32_t arc, uint32_t trace,
@@ -382,6 +470,15 @@ uint32_t jr_frame_point(const double f[JR_FRAME], double theta, double z, double
     double out[JR_VEC3]);
 
 /* ---- What is integrated over faces */
+
+/* Over all faces of a closed body, measured from one point o: its volume is JR_SUMS_SIX_V / 6, its
+   centre of mass o + moment / (4 times that sum), and the area vector is 0, which tells a face that
+   is missing or runs the wrong way. A face's boundary runs with the face on its left, seen from
+   outside the body: of a pipe's outer side the lower rim runs about the axis and the upper one
+   against it, of its bore, which is not convex, the other way round. A wall's piece runs with the
+   body on its right in the development, u to the right and v up, so that the normal, which is on
+   its left, points out of the body: at a pipe's upper end towards greater u, at its lower end
+   towards lesser u. */
 
 /* Corrects the sums `acc` of a plane face, o being their point and n the face's unit normal, for an
    edge that is no chord from u to v but the arc a about k. */

@@ -10,6 +10,9 @@ use crate::Refusal;
 // arrays alone are safe to call with any; the two that take a row as a pointer and a length are
 // not, and stand last.
 unsafe extern "C" {
+    // the layout that these declarations are for
+    pub safe fn jr_layout_1() -> u32;
+
     // vectors and motions
     pub safe fn jr_vec3_dot(a: &[f64; 3], b: &[f64; 3], out: &mut [f64; 1]) -> u32;
     pub safe fn jr_vec3_cross(a: &[f64; 3], b: &[f64; 3], out: &mut [f64; 3]) -> u32;
@@ -292,6 +295,11 @@ unsafe extern "C" {
         written: &mut [u64; 1],
     ) -> u32;
 }
+
+/// The layout by its name, in every program that links this crate: an archive of another layout does
+/// not have it, and the linker says so. A name alone is the same whatever an array holds.
+#[used]
+static LAYOUT: extern "C" fn() -> u32 = jr_layout_1;
 
 /// No such thing: an answer that is no refusal.
 const NONE: u32 = 255;

@@ -4,6 +4,7 @@ pub mod of_arcs;
 pub mod of_curves;
 pub mod of_developments;
 pub mod of_frames;
+pub mod of_layout;
 pub mod of_motions;
 pub mod of_numbers;
 pub mod of_pieces;
