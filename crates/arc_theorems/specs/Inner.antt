@@ -29,7 +29,7 @@ use Rattle.vectors.specs.declared.Vec3.{Vec3}
 use Rattle.chord_counts.specs.Chords.{fewest, most, perTurnC}
 use Rattle.chord_counts.specs.Counts.{MOST, limitedC, countC}
 use Rattle.chord_counts.specs.Laws.{at-most}
-use Rattle.rows.specs.Rows.{upTo, fits, andThen, allRefusal, allDue}
+use Rattle.rows.specs.Rows.{upTo, fits, andThen, allRefusal, itemsDue}
 use Rattle.rows.specs.CirclesLaws.{rimAt-refusal}
 use Rattle.arcs.specs.Sweeps.{endsWithin, sweepC}
 use Rattle.arcs.specs.Spokes.{spokeC}
@@ -226,7 +226,7 @@ module _ (center axis : Vec3) (radius : Float) (from to : Vec3) (chord : Float) 
   settled-is : (room : ℕ) → innersDue center axis radius from cut room ≡ fits room points (cond (isNone points || lt zero (offLength center axis from)) (due (upTo rim points .value)) (refused NOT-FINITE))
   settled-is room =
       inners-are center axis radius from cut room
-      ∙ (unfold allDue in ap (λ (d : Due (List Vec3)). fits room points d) (ap (λ (r : ℕ). settled r (upTo rim points .value)) (refusal-is points (omega arith)) ∙ by (isNone points || lt zero (offLength center axis from))))
+      ∙ (unfold itemsDue in ap (λ (d : Due (List Vec3)). fits room points d) (ap (λ (r : ℕ). settled r (upTo rim points .value)) (refusal-is points (omega arith)) ∙ by (isNone points || lt zero (offLength center axis from))))
     where
       by : (b : Bool) → settled (cond b 0 NOT-FINITE) (upTo rim points .value) ≡ cond b (due (upTo rim points .value)) (refused NOT-FINITE)
       by true = settled-none (upTo rim points .value)

@@ -14,14 +14,14 @@ use Rattle.checked.specs.Laws.{zero-first, settled-none}
 use Rattle.float_bits.specs.Words.{fabs}
 use Rattle.vectors.specs.declared.Vec3.{Vec3}
 use Rattle.checked.specs.Numbers.{zero, one}
-use Rattle.vectors.specs.Vectors.{within3, plusC, minusC, timesC, dotC}
+use Rattle.vectors.specs.Vectors.{along-x, along-y, along-z, within3, plusC, minusC, timesC, dotC}
 use Rattle.directions.specs.Directions.{lengthC, acrossC}
 use Rattle.arcs.specs.declared.Arc.{Arc}
 use Rattle.arcs.specs.Sweeps.{endsWithin, sweepFromC}
 use Rattle.boxes.specs.declared.Bounds.{Bounds}
 use Rattle.boxes.specs.Boxes.{free, passed, tried, widenedBy, boxCall}
 use Rattle.arcs.specs.Entries.{points, extendDue}
-use Rattle.arcs.specs.Extremes.{sideC, bothC, extremesC, along-x, along-y, along-z, pointsC}
+use Rattle.arcs.specs.Extremes.{sideC, bothC, extremesC, pointsC}
 use Rattle.arcs.specs.ExtremesLaws.{both-refusal, extremes-refusal, points-refusal}
 use Rattle.float_bounds.specs.Intervals.{Upto, le-fabs, finite-number}
 use Rattle.float_bounds.specs.Powers.{pow, pow-mul, pow-div, within-pow}

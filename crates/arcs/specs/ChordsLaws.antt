@@ -15,7 +15,7 @@ use Rattle.vectors.specs.Laws.{nines-ok}
 use Rattle.directions.specs.Directions.{lengthC, acrossC}
 use Rattle.chord_counts.specs.Chords.{perTurnC}
 use Rattle.chord_counts.specs.Counts.{MOST, countC}
-use Rattle.rows.specs.Rows.{upTo, fits, allRefusal, allDue}
+use Rattle.rows.specs.Rows.{upTo, fits, allRefusal, itemsDue, allDue}
 use Rattle.rows.specs.Laws.{upTo-same, upTo-before}
 use Rattle.rows.specs.Rims.{rimC, rimAtC}
 use Rattle.arcs.specs.Sweeps.{sweepC}
@@ -56,7 +56,7 @@ module _ (center axis : Vec3) (radius : Float) (from : Vec3) (cut : Cut) where
   own-refusal k = simp (spoke-ok, turned-refusal, nine-ok, checked-opened) (later _ _ _ _)
 
   pub inners-are : (room : ℕ) → innersDue center axis radius from cut room ≡ allDue (spokeC center axis radius from .refusal) rimmed (cut .chords - 1) room
-  unfolding innersDue allDue
+  unfolding innersDue itemsDue
   inners-are room =
       let m = cut .chords - 1 in
       ap₂ (λ (r : ℕ) (ps : List Vec3). fits room m (settled r ps))

@@ -6,7 +6,7 @@ use lib.Ieee.{Float, lt, neg}
 use Rattle.checked.specs.Checked.{Checked, first, _>>=_, given, num, _⊗_, _⊘_}
 use Rattle.checked.specs.Numbers.{zero, one}
 use Rattle.vectors.specs.declared.Vec3.{Vec3}
-use Rattle.vectors.specs.Vectors.{space, vec, _⊞_, _⊠_}
+use Rattle.vectors.specs.Vectors.{along-x, along-y, along-z, vec, _⊞_, _⊠_}
 use Rattle.directions.specs.Directions.{lengthC, acrossC}
 use Rattle.boxes.specs.Boxes.{_⧺_}
 use Rattle.arcs.specs.Sweeps.{sweepC}
@@ -37,16 +37,6 @@ extremesC center axis radius sweep turn e = do
   w ← acrossC axis w
   len ← lengthC w
   cond (lt zero len) (bothC center radius sweep turn w len) (given [])
-
--- the directions of the coordinates
-abbrev pub along-x : Vec3
-along-x = space one zero zero
-
-abbrev pub along-y : Vec3
-along-y = space zero one zero
-
-abbrev pub along-z : Vec3
-along-z = space zero zero one
 
 -- both ends, then the extreme points taken
 unfoldable pub pointsC : Vec3 → Vec3 → Float → Vec3 → Vec3 → Checked (List Vec3)

@@ -9,13 +9,13 @@ use Rattle.checked.specs.Checked.{Checked, first, _>>=_, given, nine}
 use Rattle.checked.specs.Laws.{first-zero, zero-first, ok, rules as checked-rules}
 use Rattle.checked.specs.Numbers.{zero, one}
 use Rattle.vectors.specs.declared.Vec3.{Vec3}
-use Rattle.vectors.specs.Vectors.{isFinite3, nines, minusC}
+use Rattle.vectors.specs.Vectors.{along-x, along-y, along-z, isFinite3, nines, minusC}
 use Rattle.vectors.specs.Laws.{nines-ok, rules as vectors-rules}
 use Rattle.directions.specs.Directions.{lengthC, acrossC}
 use Rattle.directions.specs.Laws.{rules as directions-rules}
 use Rattle.arcs.specs.Sweeps.{sweepFromC}
 use Rattle.arcs.specs.SweepLaws.{swept, sweepFrom-ok, swept-finite, sweep-is, sweep-to}
-use Rattle.arcs.specs.Extremes.{sideC, takenC, bothC, extremesC, along-x, along-y, along-z, pointsC}
+use Rattle.arcs.specs.Extremes.{sideC, takenC, bothC, extremesC, pointsC}
 
 ruleset all = (checked-rules, vectors-rules, directions-rules)
 

@@ -10,14 +10,14 @@ use Rattle.checked.specs.Checked.{Checked, first, given}
 use Rattle.checked.specs.Laws.{ok, first-none}
 use Rattle.checked.specs.Numbers.{zero, one}
 use Rattle.vectors.specs.declared.Vec3.{Vec3}
-use Rattle.vectors.specs.Vectors.{isFinite3, minusC}
+use Rattle.vectors.specs.Vectors.{along-x, along-y, along-z, isFinite3, minusC}
 use Rattle.vectors.specs.Laws.{minus-left}
 use Rattle.directions.specs.Directions.{lengthC, acrossC}
 use Rattle.boxes.specs.Boxes.{Sound, AllFinite, _⧺_}
 use Rattle.boxes.specs.Laws.{nines-finite, finite-none, finite-cons, finite-append, sound-none, sound-then, sound-append, sound-either}
 use Rattle.arcs.specs.Sweeps.{sweepFromC}
 use Rattle.arcs.specs.SweepLaws.{swept, sweepFrom-ok, swept-finite}
-use Rattle.arcs.specs.Extremes.{sideC, takenC, bothC, extremesC, along-x, along-y, along-z, pointsC}
+use Rattle.arcs.specs.Extremes.{sideC, takenC, bothC, extremesC, pointsC}
 use Rattle.arcs.specs.ExtremesLaws.{side-nine, points-refusal, points-value}
 
 taken-sound : (sweep : Vec3 → Checked Float) (turn : Float) (p : Vec3) → T (isFinite3 p) → Sound (takenC sweep turn p)

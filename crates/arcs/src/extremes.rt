@@ -20,24 +20,6 @@ use vectors::formula::minus;
 use vectors::formula::plus;
 use vectors::formula::times;
 
-const ALONG_X: Vec3 = Vec3 {
-    x: 1.0,
-    y: 0.0,
-    z: 0.0,
-};
-
-const ALONG_Y: Vec3 = Vec3 {
-    x: 0.0,
-    y: 1.0,
-    z: 0.0,
-};
-
-const ALONG_Z: Vec3 = Vec3 {
-    x: 0.0,
-    y: 0.0,
-    z: 1.0,
-};
-
 // The candidate on the side s, 1 or -1, along a vector w of length len.
 fn side(center: Vec3, radius: f64, w: Vec3, len: f64, s: f64) -> Vec3
     ensures { λ r. ⌜ r ≡ sideC center radius w len s .value ⌝ }
@@ -146,7 +128,7 @@ pub fn extended(
         refusal: earlier(b.refusal, s.refusal),
         value: held,
     };
-    let x = with_extremes(center, axis, radius, u, s.value, ALONG_X, ends);
-    let y = with_extremes(center, axis, radius, u, s.value, ALONG_Y, x);
-    with_extremes(center, axis, radius, u, s.value, ALONG_Z, y)
+    let x = with_extremes(center, axis, radius, u, s.value, Vec3::ALONG_X, ends);
+    let y = with_extremes(center, axis, radius, u, s.value, Vec3::ALONG_Y, x);
+    with_extremes(center, axis, radius, u, s.value, Vec3::ALONG_Z, y)
 }

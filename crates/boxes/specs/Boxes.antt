@@ -41,10 +41,6 @@ unfoldable pub widenedBy : Bounds → List Vec3 → Bounds
 widenedBy b [] = b
 widenedBy b (p ∷ ps) = widenedBy (widened b p) ps
 
--- the box of both
-unfoldable pub merged : Bounds → Bounds → Bounds
-merged b c = record { low = lesser (b .low) (c .low); high = greater (b .high) (c .high) }
-
 -- no NaN among the three
 unfoldable pub numbers : Vec3 → Bool
 numbers v = not (isNan (v .x)) && (not (isNan (v .y)) && not (isNan (v .z)))

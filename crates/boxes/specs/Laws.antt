@@ -1,6 +1,6 @@
 -- Laws of boxes that are widened by points, and of box calls on a box free of NaN.
 use Prim.Native.Nat.{ℕ}
-use mathlib.Core.Path.{_≡_, refl, sym, _∙_, ap, subst}
+use mathlib.Core.Path.{_≡_, refl, sym, subst}
 use mathlib.Core.Logic.{⊎-elim}
 use mathlib.Core.Bool.{Bool, true, false, cond, not, _&&_}
 use mathlib.Core.List.{List, [], _∷_, _++_, map, List·Memᴰ, List·Memᴰ·head, List·Memᴰ·tail, List·Memᴰ·cases-cons, List·Memᴰ·not-nil, List·Memᴰ·append-cases}
@@ -11,14 +11,13 @@ use lib.Ieee.Bits.{is-true}
 use lib.Ieee.Fits.{and-i, and-l, and-r}
 use Rattle.order.specs.Order.{Number}
 use Rattle.order.specs.Least.{least, greatest}
-use Rattle.order.specs.Merging.{least-grouped, greatest-grouped, least-start, greatest-start}
 use Rattle.order.specs.Extremes.{Least, Greatest, fold, AllNumbers, lowest, highest}
 use Rattle.vectors.specs.declared.Vec3.{Vec3}
-use Rattle.vectors.specs.Vectors.{isFinite3, nines, within3}
+use Rattle.vectors.specs.Vectors.{isFinite3, nines}
 use Rattle.checked.specs.Refusals.{BAD-BOX-OR-SUMS, NOT-FINITE}
-use Rattle.checked.specs.Checked.{Checked, Due, due, refused, settled, isFinite, within, first, given, unless}
-use Rattle.checked.specs.Laws.{first-zero, first-none, within-finite}
-use Rattle.boxes.specs.Boxes.{Axis, X, Y, Z, at, lesser, greater, widened, widenedBy, merged, numbers, free, empty, passed, tried, boxCall, _⧺_, AllFinite, Sound}
+use Rattle.checked.specs.Checked.{Checked, Due, due, refused, settled, isFinite, first, given, unless}
+use Rattle.checked.specs.Laws.{first-zero, first-none}
+use Rattle.boxes.specs.Boxes.{Axis, X, Y, Z, at, lesser, greater, widened, widenedBy, numbers, free, empty, passed, tried, boxCall, _⧺_, AllFinite, Sound}
 use Rattle.boxes.specs.declared.Bounds.{Bounds}
 
 -- first the points of one list, then those of the other
@@ -35,23 +34,6 @@ widened-none b = refl
 pub widened-cons : (b : Bounds) (p : Vec3) (ps : List Vec3) → widenedBy b (p ∷ ps) ≡ widenedBy (widened b p) ps
 unfolding widenedBy
 widened-cons b p ps = refl
-
--- ---- boxes of two: an edge's own box, which starts empty, merged into another is that other widened by the edge
-merged-empty : (b : Bounds) → merged b empty ≡ b
-unfolding merged lesser greater
-merged-empty b = simp (least-start, greatest-start)
-
-merged-point : (b c : Bounds) (p : Vec3) → merged b (widened c p) ≡ widened (merged b c) p
-unfolding merged widened lesser greater
-merged-point b c p = simp (least-grouped, greatest-grouped)
-
-pub merged-widened : (b c : Bounds) (ps : List Vec3) → merged b (widenedBy c ps) ≡ widenedBy (merged b c) ps
-unfolding widenedBy
-merged-widened b c [] = refl
-merged-widened b c (p ∷ ps) = merged-widened b (widened c p) ps ∙ ap (λ (d : Bounds). widenedBy d ps) (merged-point b c p)
-
-pub merged-own : (b : Bounds) (ps : List Vec3) → merged b (widenedBy empty ps) ≡ widenedBy b ps
-merged-own b ps = merged-widened b empty ps ∙ ap (λ (d : Bounds). widenedBy d ps) (merged-empty b)
 
 -- ---- a coordinate of the box is the least, or the greatest, of that coordinate's numbers
 pub low-at : (k : Axis) (b : Bounds) (ps : List Vec3) → at k (widenedBy b ps .low) ≡ fold least (at k (b .low)) (map (at k) ps)
@@ -164,13 +146,6 @@ passes n false rest h = absurd (subst (λ (d : Due Unit). T (isPassed d)) (sym h
     isPassed (refused n) = false
 
 -- ---- computations whose points are finite where no refusal is met
-pub within-finite3 : (v : Vec3) → T (within3 v) → T (isFinite3 v)
-unfolding within3 isFinite3
-within-finite3 v h =
-    let yz = and-r (within (v .x)) (within (v .y) && within (v .z)) h in
-    and-i (isFinite (v .x)) (isFinite (v .y) && isFinite (v .z)) (within-finite (v .x) (and-l (within (v .x)) (within (v .y) && within (v .z)) h))
-    (and-i (isFinite (v .y)) (isFinite (v .z)) (within-finite (v .y) (and-l (within (v .y)) (within (v .z)) yz)) (within-finite (v .z) (and-r (within (v .y)) (within (v .z)) yz)))
-
 pub nines-finite : (p : Vec3) → nines p ≡ 0 → T (isFinite3 p)
 unfolding nines
 nines-finite p h = cases (isFinite3 p) h
@@ -190,10 +165,6 @@ finite-append ps qs P Q p m = ⊎-elim (λ (l : List·Memᴰ p ps). P p l) (λ (
 
 pub sound-none : Sound (given [])
 sound-none h = finite-none
-
--- a point that is tried
-pub sound-one : (p : Vec3) → Sound (record { refusal = nines p; value = p ∷ [] })
-sound-one p h = finite-cons p [] (nines-finite p h) finite-none
 
 -- what met a refusal r, or none, before it
 pub sound-then : (r : ℕ) (c : Checked (List Vec3)) → (r ≡ 0 → Sound c) → Sound (record { refusal = first r (c .refusal); value = c .value })

@@ -124,14 +124,4 @@ impl Bounds {
             high: greater(self.high, p),
         }
     }
-
-    // The box of both.
-    pub fn merged(self, o: Self) -> Self
-        ensures { λ r. ⌜ r ≡ Boxes.merged self o ⌝ }
-    {
-        Self {
-            low: lesser(self.low, o.low),
-            high: greater(self.high, o.high),
-        }
-    }
 }

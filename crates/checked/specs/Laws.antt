@@ -102,9 +102,6 @@ swap x y r = cases (isFinite x) (isFinite y)
     cases false true = refl
     cases false false = refl
 
-pub swap-ends : (x y : Float) → first (nine x) (nine y) ≡ first (nine y) (nine x)
-swap-ends x y = simp first-zero at (swap x y 0)
-
 -- what need not be noted, by tests in place of numbers: p holds where q, noted next, does
 pub absorb : (p q : Bool) → (T q → T p) → first (ok p) (ok q) ≡ ok q
 unfolding ok first

@@ -1,11 +1,11 @@
 -- One step more of a loop, and what is the same however a loop is cut. Assumes nothing.
 use Prim.Native.Nat.{ℕ, zero, suc, _+_, _-_}
-use mathlib.Core.Path.{_≡_, refl, sym}
+use mathlib.Core.Path.{_≡_, refl, sym, _∙_, ap}
 use mathlib.Core.Bool.{Bool, true, false, cond}
 use native.Mathlib.Omega.{arith}
-use native.Mathlib.Numerals.{add-one, unary-clauses}
+use native.Mathlib.Numerals.{add-one}
 use Rattle.checked.specs.Checked.{Checked, first, _>>=_, given}
-use Rattle.checked.specs.Laws.{first-assoc, first-zero, zero-first, first-some}
+use Rattle.checked.specs.Laws.{first-assoc, first-zero, zero-first}
 use Rattle.checked.specs.Loops.{foldC, whileC}
 
 module _ {A : Type 0} (step : ℕ → A → Checked A) (start : A) where
@@ -23,12 +23,6 @@ module _ {A : Type 0} (step : ℕ → A → Checked A) (start : A) where
   pub fold-value : (n : ℕ) → foldC (n + 1) step start .value ≡ step n (foldC n step start .value) .value
   unfolding foldC
   fold-value n = rw (add-one n)
-
-  -- a refusal that was met stays
-  pub fold-refused : (n k : ℕ) → (foldC n step start .refusal ≡ 0 → ⊥) → foldC (n + k) step start .refusal ≡ foldC n step start .refusal
-  unfolding foldC
-  fold-refused n zero h = simp unary-clauses
-  fold-refused n (suc k) h = simp unary-clauses (rw (fold-refused n k h) (first-some (foldC n step start .refusal) _ h))
 
 -- steps that agree, reached by the same values, make the same loop
 pub fold-values : {A : Type 0} (step other : ℕ → A → Checked A) (start : A) → ((k : ℕ) (a : A) → step k a .value ≡ other k a .value) → (n : ℕ) → foldC n step start .value ≡ foldC n other start .value
@@ -72,6 +66,20 @@ done-none step start = record { refusal = refl; value = refl }
 pub done-more : {A : Type 0} (step : ℕ → A → Checked A) (start : A) (n r : ℕ) (a : A) → Done (foldC n step start) r a → Done (foldC (n + 1) step start) (first r (step n a .refusal)) (step n a .value)
 done-more step start n r a d = record {
   refusal = rw (d .refusal, d .value) (sym (fold-refusal step start n));
+  value = rw (d .value) (sym (fold-value step start n));
+}
+
+-- the same where the refusal r was met before the loop
+abbrev pub met : {A : Type 0} → ℕ → Checked A → Checked A
+met r c = record { refusal = first r (c .refusal); value = c .value }
+
+pub met-none : {A : Type 0} (step : ℕ → A → Checked A) (start : A) (r : ℕ) → Done (met r (foldC 0 step start)) r start
+unfolding foldC
+met-none step start r = record { refusal = sym (first-zero r); value = refl }
+
+pub met-more : {A : Type 0} (step : ℕ → A → Checked A) (start : A) (n r s : ℕ) (a : A) → Done (met r (foldC n step start)) s a → Done (met r (foldC (n + 1) step start)) (first s (step n a .refusal)) (step n a .value)
+met-more step start n r s a d = record {
+  refusal = rw (d .refusal, d .value) (first-assoc r _ _ ∙ ap (first r) (sym (fold-refusal step start n)));
   value = rw (d .value) (sym (fold-value step start n));
 }
 

@@ -2,10 +2,10 @@
 use mathlib.Core.Bool.{Bool, not, cond, _&&_}
 use lib.Ieee.{Float, binary64, div, lt, ofBits}
 use Rattle.checked.specs.Refusals.{OUT-OF-RANGE, BAD-TOLERANCE}
-use Rattle.checked.specs.Checked.{Checked, first, _>>=_, given, finite, num, within, _⊖_, _⊘_, Due, answered, unless}
+use Rattle.checked.specs.Checked.{Checked, first, _>>=_, given, num, within, _⊖_, _⊘_, Due, answered, unless}
 use Rattle.checked.specs.Numbers.{zero, one, pi}
 use Rattle.rounding.specs.Whole.{ceil}
-use Rattle.libm.specs.Roots.{acos}
+use Rattle.libm.specs.Computations.{acosC}
 
 -- SEGMENTS: a full turn has at least 12 chords and at most 64
 abbrev pub fewest : Float
@@ -14,12 +14,6 @@ fewest = ofBits binary64 0x4028_0000_0000_0000
 abbrev pub most : Float
 most = ofBits binary64 0x4050_0000_0000_0000
 
--- the arc cosine
-abbrev pub acosC : Checked Float → Checked Float
-acosC m = do
-  x ← m
-  finite (acos x)
-
 -- where the chord is below the radius: π over half the angle of a chord that is `chord` off the
 -- circle. The quotient is infinite for a chord of 0, and is not tried.
 unfoldable pub quotientC : Float → Float → Checked Float
@@ -27,6 +21,7 @@ quotientC radius chord = do
   a ← acosC (num one ⊖ num chord ⊘ num radius)
   given (div binary64 pi a)
 
+-- as many as that, and none where the chord is not below the radius
 unfoldable pub chordsC : Float → Float → Checked Float
 chordsC radius chord = cond (lt chord radius) (quotientC radius chord) (given zero)
 

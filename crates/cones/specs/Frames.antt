@@ -4,25 +4,14 @@ use mathlib.Core.Bool.{cond}
 use lib.Dec.{ltb}
 use lib.Ieee.{Float}
 use Rattle.checked.specs.Checked.{Checked, _>>=_, given, num}
-use Rattle.checked.specs.Numbers.{zero, one}
 use Rattle.float_bits.specs.Words.{size}
 use Rattle.vectors.specs.declared.Vec3.{Vec3}
-use Rattle.vectors.specs.Vectors.{space, vec, _⊞_, _⊟_, _⊠_, _⊡_, _⨯_}
+use Rattle.vectors.specs.Vectors.{along-x, along-y, along-z, vec, _⊞_, _⊟_, _⊠_, _⊡_, _⨯_}
 use Rattle.directions.specs.Directions.{acrossC, unitC}
 use Rattle.profile_arcs.specs.Angles.{atan2C}
 use Rattle.libm.specs.Circle.{sincosC}
 use Rattle.cones.specs.declared.Cone.{Cone}
 use Rattle.cones.specs.declared.Frame.{Frame}
-
--- the directions of the coordinates
-abbrev pub along-x : Vec3
-along-x = space one zero zero
-
-abbrev pub along-y : Vec3
-along-y = space zero one zero
-
-abbrev pub along-z : Vec3
-along-z = space zero zero one
 
 -- `min_by` over the three directions, whose cosines are x, y and z: the one before, unless it is
 -- greater than the next. `total_cmp` of numbers without their signs is the order of their patterns.

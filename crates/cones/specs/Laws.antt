@@ -5,14 +5,14 @@ use lib.Ieee.{Float}
 use Rattle.checked.specs.Checked.{first, nine, due, refused, settled}
 use Rattle.checked.specs.Laws.{settled-some, settled-none, rules as checked-rules}
 use Rattle.vectors.specs.declared.Vec3.{Vec3}
-use Rattle.vectors.specs.Vectors.{nines, minusC, dotC}
+use Rattle.vectors.specs.Vectors.{along-x, along-y, along-z, nines, minusC, dotC}
 use Rattle.vectors.specs.Laws.{rules as vectors-rules}
 use Rattle.directions.specs.Directions.{lengthC, acrossC}
 use Rattle.directions.specs.Laws.{unit-refusal, rules as directions-rules}
 use Rattle.libm.specs.Circle.{sincosC}
 use Rattle.cones.specs.declared.Cone.{Cone}
 use Rattle.cones.specs.declared.Frame.{Frame}
-use Rattle.cones.specs.Frames.{along-x, along-y, along-z, leastAxis, frameC, angleC, pointC}
+use Rattle.cones.specs.Frames.{leastAxis, frameC, angleC, pointC}
 
 ruleset all = (checked-rules, vectors-rules, directions-rules)
 

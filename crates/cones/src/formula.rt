@@ -20,24 +20,6 @@ use vectors::formula::noted;
 use vectors::formula::plus;
 use vectors::formula::times;
 
-pub const ALONG_X: Vec3 = Vec3 {
-    x: 1.0,
-    y: 0.0,
-    z: 0.0,
-};
-
-pub const ALONG_Y: Vec3 = Vec3 {
-    x: 0.0,
-    y: 1.0,
-    z: 0.0,
-};
-
-pub const ALONG_Z: Vec3 = Vec3 {
-    x: 0.0,
-    y: 0.0,
-    z: 1.0,
-};
-
 // The coordinate axis of the least of three cosines without their signs, the first one of equals.
 pub fn least_axis(x: f64, y: f64, z: f64) -> Vec3
     ensures { λ r. ⌜ r ≡ leastAxis x y z ⌝ }
@@ -46,9 +28,9 @@ pub fn least_axis(x: f64, y: f64, z: f64) -> Vec3
     let q = size(y);
     let r = size(z);
     if q < p {
-        if r < q { ALONG_Z } else { ALONG_Y }
+        if r < q { Vec3::ALONG_Z } else { Vec3::ALONG_Y }
     } else {
-        if r < p { ALONG_Z } else { ALONG_X }
+        if r < p { Vec3::ALONG_Z } else { Vec3::ALONG_X }
     }
 }
 
@@ -59,9 +41,9 @@ pub fn own_frame(c: Cone) -> CheckedFrame
 {
     let a = c.axis;
     let o = c.origin;
-    let x = dot(ALONG_X, a);
-    let y = dot(ALONG_Y, a);
-    let z = dot(ALONG_Z, a);
+    let x = dot(Vec3::ALONG_X, a);
+    let y = dot(Vec3::ALONG_Y, a);
+    let z = dot(Vec3::ALONG_Z, a);
     let w = across(a, least_axis(x, y, z));
     let l = length(w);
     let e1 = times(w, 1.0 / l);

@@ -13,9 +13,6 @@ use checked::is_within;
 use checked::note;
 use directions::formula::across;
 use directions::formula::length;
-use formula::ALONG_X;
-use formula::ALONG_Y;
-use formula::ALONG_Z;
 use formula::least_axis;
 use vectors::Vec3;
 use vectors::Vector;
@@ -65,9 +62,9 @@ fn answer(c: Cone) -> FrameAnswer
 {
     let a = c.axis;
     let o = c.origin;
-    let x = dot(ALONG_X, a);
-    let y = dot(ALONG_Y, a);
-    let z = dot(ALONG_Z, a);
+    let x = dot(Vec3::ALONG_X, a);
+    let y = dot(Vec3::ALONG_Y, a);
+    let z = dot(Vec3::ALONG_Z, a);
     let w = across(a, least_axis(x, y, z));
     let l = length(w);
     let e1 = times(w, 1.0 / l);

@@ -1,7 +1,7 @@
 // Constants of the code, given back beside the papers' figures that they equal: a program that wants
 // them takes them from their own crates.
 ghost use mathlib.Core.Path.{_≡_};
-ghost use Rattle.vectors.specs.Vectors.{origin};
+ghost use Rattle.vectors.specs.Vectors.{origin, along-x, along-y, along-z};
 ghost use Rattle.chord_counts.specs.Counts as Counts;
 ghost use Rattle.constants.specs.Constants as Constants;
 use checked::ANGLE_TOO_LARGE;
@@ -66,6 +66,25 @@ pub fn zero() -> Vec3
     ensures { λ r. ⌜ r ≡ origin ⌝ }
 {
     Vec3::ZERO
+}
+
+// The directions of the coordinates.
+pub fn along_x() -> Vec3
+    ensures { λ r. ⌜ r ≡ along-x ⌝ }
+{
+    Vec3::ALONG_X
+}
+
+pub fn along_y() -> Vec3
+    ensures { λ r. ⌜ r ≡ along-y ⌝ }
+{
+    Vec3::ALONG_Y
+}
+
+pub fn along_z() -> Vec3
+    ensures { λ r. ⌜ r ≡ along-z ⌝ }
+{
+    Vec3::ALONG_Z
 }
 
 // The most chords or pieces.

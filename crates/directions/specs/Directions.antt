@@ -7,13 +7,18 @@ use Rattle.rounding.specs.Computations.{sqrtC}
 use Rattle.vectors.specs.declared.Vec3.{Vec3}
 use Rattle.vectors.specs.Vectors.{within3, vec, _⊟_, _⊠_, _⊡_}
 
--- the length of a vector
+-- the length of a vector: the root of its product with itself
 unfoldable pub lengthC : Vec3 → Checked Float
 lengthC v = sqrtC (vec v ⊡ vec v)
 
--- the vector of length 1 along v: `v * (1.0 / v.dot(v).sqrt())`
+-- a vector over its length, by the reciprocal: `v * (1.0 / v.dot(v).sqrt())`. The Rust writes it out for a motion's axis and for the start
+-- direction of a meet's pipe, which do not pass through `unit`.
+unfoldable pub overLengthC : Vec3 → Checked Vec3
+overLengthC v = vec v ⊠ (num one ⊘ lengthC v)
+
+-- `unit`: the vector of length 1 along v
 unfoldable pub unitC : Vec3 → Checked Vec3
-unitC v = vec v ⊠ (num one ⊘ lengthC v)
+unitC v = overLengthC v
 
 -- what is left of d across the axis: `d - axis * d.dot(axis)`
 unfoldable pub acrossC : Vec3 → Vec3 → Checked Vec3

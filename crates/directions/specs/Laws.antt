@@ -10,7 +10,7 @@ use Rattle.rounding.specs.Laws.{sqrt-under, rounded}
 use Rattle.vectors.specs.declared.Vec3.{Vec3}
 use Rattle.vectors.specs.Vectors.{isFinite3, nines, minusC, timesC, dotC}
 use Rattle.vectors.specs.Laws.{alone3, dot-left, times-left, minus-left, minus-right, rules as vectors-rules}
-use Rattle.directions.specs.Directions.{lengthC, unitC, acrossC, radialC}
+use Rattle.directions.specs.Directions.{lengthC, overLengthC, unitC, acrossC, radialC}
 
 pub length-nine : (v : Vec3) → lengthC v .refusal ≡ nine (lengthC v .value)
 unfolding lengthC
@@ -32,9 +32,13 @@ across-tells axis d p =
     (minus-left d (timesC axis (dotC d axis .value) .value))
 
 -- the length is noted by itself, since it is a divisor: over an infinite one the vector would be 0
+pub over-length-refusal : (v : Vec3) → overLengthC v .refusal ≡ first (nine (lengthC v .value)) (nines (overLengthC v .value))
+unfolding overLengthC
+over-length-refusal v = simp (length-nine, checked-rules, vectors-rules)
+
 pub unit-refusal : (v : Vec3) → unitC v .refusal ≡ first (nine (lengthC v .value)) (nines (unitC v .value))
 unfolding unitC
-unit-refusal v = simp (length-nine, checked-rules, vectors-rules)
+unit-refusal = over-length-refusal
 
 pub ruleset opened = (sqrtC, length-nine, across-nine)
 

@@ -1,6 +1,5 @@
 -- Comparisons joined, and numbers by the side of 0 that they lie on. Assumes nothing.
 use mathlib.Core.Path.{_≡_, sym, subst}
-use mathlib.Core.Logic.{inl, inr}
 use mathlib.Core.Bool.{Bool, true, false, not}
 use Prim.Native.Nat.{ℕ, _+_, _*_, _≤_}
 use native.Mathlib.Omega.{arith}
@@ -8,8 +7,6 @@ use lib.Dec.{T}
 use lib.Ieee.{Float, nan, inf, fin, up, down, neg, le, lt, isNan}
 use Rattle.checked.specs.Checked.{isFinite}
 use Rattle.order.specs.Order.{Number, le-numbers, not-lt-le, le-trans-of, lt-not-le, lt-le}
-use Rattle.order.specs.Least.{least, greatest}
-use Rattle.order.specs.Extremes.{least-picks, greatest-picks}
 use Rattle.float_bits.specs.Words.{fabs}
 use Rattle.float_bounds.specs.Parts.{nought, le-parts, le-back}
 
@@ -55,16 +52,3 @@ above-size (fin true m e) X h = le-back (fin false m e) (fin true m e) tt tt (tw
   where
     twice : (a d : ℕ) → 0 * d + a * 1 ≤ 0 * 1 + 0 * d → a * d + a * d ≤ 0 * d + 0 * d
     twice a d h = let z : a ≡ 0 = omega arith in rw z (omega arith)
-
--- ---- the least and the greatest of two finite numbers are finite
-pub least-finite : (a b : Float) → T (isFinite a) → T (isFinite b) → T (isFinite (least a b))
-least-finite a b A B = elim (least-picks a b (number a A) (number b B) .which) [
-  | inl e ↦ subst (λ (v : Float). T (isFinite v)) (sym e) A
-  | inr e ↦ subst (λ (v : Float). T (isFinite v)) (sym e) B
-]
-
-pub greatest-finite : (a b : Float) → T (isFinite a) → T (isFinite b) → T (isFinite (greatest a b))
-greatest-finite a b A B = elim (greatest-picks a b (number a A) (number b B) .which) [
-  | inl e ↦ subst (λ (v : Float). T (isFinite v)) (sym e) A
-  | inr e ↦ subst (λ (v : Float). T (isFinite v)) (sym e) B
-]

@@ -39,10 +39,6 @@ chosen m a b c d p q r s = either (eqb m 0) a _ p (either (eqb m 1) b _ q (eithe
 
 -- ---- the constants
 
-zero-angle : Angle zero × Angle (neg zero)
-unfolding neg le lt eq ofBits
-zero-angle = ((tt, tt), (tt, tt))
-
 half-circles : Angle pi × Angle (neg pi)
 unfolding neg le lt eq ofBits
 half-circles = ((tt, tt), (tt, tt))

@@ -2,39 +2,30 @@
 use mathlib.Core.Bool.{cond}
 use lib.Ieee.{Float, le}
 use Rattle.checked.specs.Checked.{Checked, first, _>>=_, given, finite, num, minus, _⊕_, _⊖_, _⊗_, _⊘_}
-use Rattle.checked.specs.Numbers.{zero, one}
+use Rattle.checked.specs.Numbers.{zero}
 use Rattle.libm.specs.Circle.{sincosC}
-use Rattle.directions.specs.Directions.{unitC, acrossC}
+use Rattle.directions.specs.Directions.{overLengthC, acrossC}
 use Rattle.rounding.specs.Computations.{sqrtC}
 use Rattle.vectors.specs.declared.Vec3.{Vec3}
-use Rattle.vectors.specs.Vectors.{origin, space, vec, _⊞_, _⊟_, _⊠_, _⊡_, _⨯_}
+use Rattle.vectors.specs.Vectors.{origin, along-x, along-y, along-z, vec, _⊞_, _⊟_, _⊠_, _⊡_, _⨯_}
 use Rattle.meets.specs.declared.quadratic.Pipe.{Pipe}
 use Rattle.meets.specs.declared.quadratic.Quadratic.{Quadratic}
 use Rattle.meets.specs.declared.quadratic.Reached.{Reached}
-
-abbrev pub alongX : Vec3
-alongX = space one zero zero
-
-abbrev pub alongY : Vec3
-alongY = space zero one zero
-
-abbrev pub alongZ : Vec3
-alongZ = space zero zero one
 
 -- ---- the pipe and the cylinder met
 -- without `turn` the pipe is the development's own
 unfoldable pub ownC : Vec3 → Vec3 → Float → Float → Float → Checked Pipe
 ownC o axis radius own n = do
-  a ← vec alongZ ⊠ num own
-  given (record { o = origin; a = a; e1 = alongX; e2 = alongY; r = n; mo = o; ma = axis; mr = radius })
+  a ← vec along-z ⊠ num own
+  given (record { o = origin; a = a; e1 = along-x; e2 = along-y; r = n; mo = o; ma = axis; mr = radius })
 
 -- with it, the other one
 unfoldable pub otherC : Vec3 → Vec3 → Float → Float → Checked Pipe
 otherC o axis radius own = do
-  e ← vec alongZ ⨯ vec axis
-  e1 ← unitC e
+  e ← vec along-z ⨯ vec axis
+  e1 ← overLengthC e
   e2 ← vec axis ⨯ vec e1
-  given (record { o = o; a = axis; e1 = e1; e2 = e2; r = radius; mo = origin; ma = alongZ; mr = own })
+  given (record { o = o; a = axis; e1 = e1; e2 = e2; r = radius; mo = origin; ma = along-z; mr = own })
 
 -- ---- along the generatrix
 -- |w + t·a|² = R²: A·t² + 2B·t + C = 0, with the root of B² − A·C

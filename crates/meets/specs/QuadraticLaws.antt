@@ -5,14 +5,14 @@ use lib.Ieee.{Float, binary64, sub, mul, div, le}
 use Rattle.checked.specs.Checked.{Checked, first, nine}
 use Rattle.checked.specs.Laws.{rules as checked-rules}
 use Rattle.libm.specs.Circle.{sincosC}
-use Rattle.directions.specs.Directions.{unitC}
-use Rattle.directions.specs.Laws.{unit-refusal, rules as directions-rules}
+use Rattle.directions.specs.Directions.{overLengthC}
+use Rattle.directions.specs.Laws.{over-length-refusal, rules as directions-rules}
 use Rattle.vectors.specs.declared.Vec3.{Vec3}
-use Rattle.vectors.specs.Vectors.{nines, crossC, dotC}
+use Rattle.vectors.specs.Vectors.{along-z, nines, crossC, dotC}
 use Rattle.vectors.specs.Laws.{rules as vectors-rules}
 use Rattle.meets.specs.declared.quadratic.Pipe.{Pipe}
 use Rattle.meets.specs.declared.quadratic.Quadratic.{Quadratic}
-use Rattle.meets.specs.Pipes.{alongZ, ownC, otherC, quadraticC, lesserC, reachC}
+use Rattle.meets.specs.Pipes.{ownC, otherC, quadraticC, lesserC, reachC}
 
 ruleset all = (checked-rules, vectors-rules, directions-rules)
 
@@ -20,9 +20,9 @@ pub own-refusal : (o axis : Vec3) (radius own n : Float) → ownC o axis radius 
 unfolding ownC
 own-refusal o axis radius own n = simp all
 
-pub other-refusal : (o axis : Vec3) (radius own : Float) → otherC o axis radius own .refusal ≡ first (unitC (crossC alongZ axis .value) .refusal) (nines (otherC o axis radius own .value .e2))
+pub other-refusal : (o axis : Vec3) (radius own : Float) → otherC o axis radius own .refusal ≡ first (overLengthC (crossC along-z axis .value) .refusal) (nines (otherC o axis radius own .value .e2))
 unfolding otherC
-other-refusal o axis radius own = simp (unit-refusal, all)
+other-refusal o axis radius own = simp (over-length-refusal, all)
 
 -- a finite root tells that all before it is finite, the angle's sine apart
 abbrev pub quadratic : Pipe → Float → Quadratic

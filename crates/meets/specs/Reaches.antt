@@ -10,7 +10,6 @@ use Rattle.meets.specs.declared.quadratic.Reached.{Reached}
 use Rattle.meets.specs.Pipes.{reachC}
 use Rattle.meets.specs.declared.generatrix.Speed.{Speed}
 use Rattle.meets.specs.declared.generatrix.Bend.{Bend}
-use Rattle.meets.specs.declared.generatrix.Slopes.{Slopes}
 use Rattle.meets.specs.declared.generatrix.Jet.{Jet}
 
 -- ---- what the derivatives share
@@ -38,7 +37,8 @@ bendC p h v = do
 unfoldable pub aheadC : Vec3 → Vec3 → Float → Checked Vec3
 aheadC p a t = vec p ⊞ vec a ⊠ num t
 
--- ---- what is read of `Meet::point`: the point's z alone,
+-- ---- what is read of `Meet::point`
+-- the point's z alone,
 unfoldable pub heightC : Pipe → Float → Checked Float
 heightC p phi = do
   h ← reachC p phi
@@ -50,23 +50,7 @@ pointC p phi = do
   h ← reachC p phi
   aheadC (h .p0) (p .a) (h .t)
 
--- the first derivative alone,
-unfoldable pub slopeC : Pipe → Float → Checked Vec3
-slopeC p phi = do
-  h ← reachC p phi
-  v ← speedC p h
-  aheadC (v .d1) (p .a) (v .t1)
-
--- the point and the first derivative,
-unfoldable pub withSlopeC : Pipe → Float → Checked Slopes
-withSlopeC p phi = do
-  h ← reachC p phi
-  v ← speedC p h
-  q ← aheadC (h .p0) (p .a) (h .t)
-  q1 ← aheadC (v .d1) (p .a) (v .t1)
-  given (record { q = q; q1 = q1 })
-
--- all three
+-- the point and its two derivatives
 unfoldable pub jetC : Pipe → Float → Checked Jet
 jetC p phi = do
   h ← reachC p phi

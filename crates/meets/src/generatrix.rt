@@ -2,7 +2,7 @@
 // reads, and no more; the pipe is worked out once and handed on.
 ghost use mathlib.Core.Path.{_≡_};
 ghost use Rattle.meets.specs.Pipes.{reachC};
-ghost use Rattle.meets.specs.Reaches.{aheadC, speedC, bendC, heightC, pointC, slopeC, withSlopeC, jetC};
+ghost use Rattle.meets.specs.Reaches.{aheadC, speedC, bendC, heightC, jetC};
 use crate::quadratic::CheckedReached;
 use crate::quadratic::Pipe;
 use crate::quadratic::Quadratic;
@@ -15,7 +15,6 @@ use checked::note;
 use directions::formula::across;
 use libm::sincos::sincos;
 use rounding::sqrt;
-use vectors::CheckedVec3;
 use vectors::Vec3;
 use vectors::formula::dot;
 use vectors::formula::minus;
@@ -44,17 +43,6 @@ pub struct Bend {
 
 pub struct CheckedBend {
     pub value: Bend,
-    pub refusal: u8,
-}
-
-// A point and its first derivative.
-pub struct Slopes {
-    pub q: Vec3,
-    pub q1: Vec3,
-}
-
-pub struct CheckedSlopes {
-    pub value: Slopes,
     pub refusal: u8,
 }
 
@@ -124,50 +112,7 @@ pub fn height(p: Pipe, phi: f64) -> CheckedNumber
     }
 }
 
-pub fn point(p: Pipe, phi: f64) -> CheckedVec3
-    ensures refusal { λ r. ⌜ r .refusal ≡ pointC p phi .refusal ⌝ }
-    ensures value { λ r. ⌜ r .value ≡ pointC p phi .value ⌝ }
-{
-    let x = reach(p, phi);
-    let q = ahead(x.value.p0, p.a, x.value.t);
-    CheckedVec3 {
-        refusal: noted(q, x.refusal),
-        value: q,
-    }
-}
-
-// The first derivative alone.
-pub fn slope(p: Pipe, phi: f64) -> CheckedVec3
-    ensures refusal { λ r. ⌜ r .refusal ≡ slopeC p phi .refusal ⌝ }
-    ensures value { λ r. ⌜ r .value ≡ slopeC p phi .value ⌝ }
-{
-    let x = reach(p, phi);
-    let h = x.value;
-    let v = speed_at(p, h);
-    let q1 = ahead(v.value.d1, p.a, v.value.t1);
-    CheckedVec3 {
-        refusal: noted(q1, earlier(x.refusal, v.refusal)),
-        value: q1,
-    }
-}
-
-// The point and its first derivative.
-pub fn with_slope(p: Pipe, phi: f64) -> CheckedSlopes
-    ensures refusal { λ r. ⌜ r .refusal ≡ withSlopeC p phi .refusal ⌝ }
-    ensures value { λ r. ⌜ r .value ≡ withSlopeC p phi .value ⌝ }
-{
-    let x = reach(p, phi);
-    let h = x.value;
-    let v = speed_at(p, h);
-    let q = ahead(h.p0, p.a, h.t);
-    let q1 = ahead(v.value.d1, p.a, v.value.t1);
-    CheckedSlopes {
-        refusal: noted(q1, noted(q, earlier(x.refusal, v.refusal))),
-        value: Slopes { q: q, q1: q1 },
-    }
-}
-
-// `pipes::reach` once more, for `jet_at` alone: a function with one call site is inlined, which is a quarter of the time of `Meet::point`.
+// `quadratic::reach` once more, for `jet_at` alone: a function with one call site is inlined, which is a quarter of the time of `Meet::point`.
 fn reach_here(p: Pipe, phi: f64) -> CheckedReached
     ensures refusal { λ r. ⌜ r .refusal ≡ reachC p phi .refusal ⌝ }
     ensures value { λ r. ⌜ r .value ≡ reachC p phi .value ⌝ }

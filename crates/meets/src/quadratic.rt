@@ -5,7 +5,7 @@ use checked::CheckedNumber;
 use checked::earlier;
 use checked::note;
 use directions::formula::across;
-use directions::formula::unit;
+use directions::formula::over_length;
 use libm::sincos::sincos;
 use rounding::sqrt;
 use vectors::Vec3;
@@ -15,24 +15,6 @@ use vectors::formula::minus;
 use vectors::formula::noted;
 use vectors::formula::plus;
 use vectors::formula::times;
-
-const X: Vec3 = Vec3 {
-    x: 1.0,
-    y: 0.0,
-    z: 0.0,
-};
-
-const Y: Vec3 = Vec3 {
-    x: 0.0,
-    y: 1.0,
-    z: 0.0,
-};
-
-const Z: Vec3 = Vec3 {
-    x: 0.0,
-    y: 0.0,
-    z: 1.0,
-};
 
 // The pipe: a point of its axis, the axis, where the angle starts and a quarter turn on, its radius; then the cylinder met: a point of its
 // axis, the axis, its radius.
@@ -84,14 +66,14 @@ pub fn own_pipe(origin: Vec3, axis: Vec3, radius: f64, own: f64, n: f64) -> Chec
     ensures refusal { λ r. ⌜ r .refusal ≡ ownC origin axis radius own n .refusal ⌝ }
     ensures value { λ r. ⌜ r .value ≡ ownC origin axis radius own n .value ⌝ }
 {
-    let a = times(Z, own);
+    let a = times(Vec3::ALONG_Z, own);
     CheckedPipe {
         refusal: noted(a, 0),
         value: Pipe {
             o: Vec3::ZERO,
             a: a,
-            e1: X,
-            e2: Y,
+            e1: Vec3::ALONG_X,
+            e2: Vec3::ALONG_Y,
             r: n,
             mo: origin,
             ma: axis,
@@ -105,7 +87,7 @@ pub fn other_pipe(origin: Vec3, axis: Vec3, radius: f64, own: f64) -> CheckedPip
     ensures refusal { λ r. ⌜ r .refusal ≡ otherC origin axis radius own .refusal ⌝ }
     ensures value { λ r. ⌜ r .value ≡ otherC origin axis radius own .value ⌝ }
 {
-    let u = unit(cross(Z, axis));
+    let u = over_length(cross(Vec3::ALONG_Z, axis));
     let e1 = u.value;
     let e2 = cross(axis, e1);
     CheckedPipe {
@@ -117,7 +99,7 @@ pub fn other_pipe(origin: Vec3, axis: Vec3, radius: f64, own: f64) -> CheckedPip
             e2: e2,
             r: radius,
             mo: Vec3::ZERO,
-            ma: Z,
+            ma: Vec3::ALONG_Z,
             mr: own,
         },
     }

@@ -6,18 +6,11 @@ use lib.Dec.{T}
 use lib.Ieee.{Float}
 use Rattle.checked.specs.Checked.{Checked, first, nine, isFinite}
 use Rattle.checked.specs.Laws.{tells, two, nine-ok, ok-and, rules as checked-rules}
-use Rattle.directions.specs.Directions.{lengthC}
-use Rattle.directions.specs.Laws.{rules as directions-rules}
 use Rattle.vectors.specs.declared.Vec3.{Vec3}
 use Rattle.vectors.specs.Vectors.{isFinite3, nines, space}
 use Rattle.vectors.specs.Laws.{nines-are, nines-ok, rules as vectors-rules}
 use Rattle.motions.specs.declared.Rigid.{Rigid}
-use Rattle.motions.specs.Motions.{axisC, diagonalC, moreC, lessC, rowC, rowsC, rowsNine, rotationC, applyVectorC, applyC}
-
--- the length is noted by itself, since it is a divisor
-pub axis-refusal : (axis : Vec3) → axisC axis .refusal ≡ first (nine (lengthC axis .value)) (nines (axisC axis .value))
-unfolding axisC
-axis-refusal axis = simp (directions-rules, checked-rules, vectors-rules)
+use Rattle.motions.specs.Motions.{diagonalC, moreC, lessC, rowC, rowsC, rowsNine, rotationC, applyVectorC, applyC}
 
 pub diagonal-nine : (t a c : Float) → diagonalC t a c .refusal ≡ nine (diagonalC t a c .value)
 unfolding diagonalC

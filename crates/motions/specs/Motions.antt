@@ -3,12 +3,12 @@ use Prim.Native.Nat.{ℕ}
 use mathlib.Core.Bool.{Bool, _&&_}
 use lib.Ieee.{Float}
 use Rattle.checked.specs.Refusals.{OUT-OF-RANGE}
-use Rattle.checked.specs.Checked.{Checked, first, _>>=_, given, num, _⊕_, _⊖_, _⊗_, _⊘_, within, Due, due, refused, answered, unless}
+use Rattle.checked.specs.Checked.{Checked, first, _>>=_, given, num, _⊕_, _⊖_, _⊗_, within, Due, due, refused, answered, unless}
 use Rattle.checked.specs.Numbers.{one}
 use Rattle.libm.specs.Circle.{sincosC}
-use Rattle.directions.specs.Directions.{lengthC}
+use Rattle.directions.specs.Directions.{overLengthC}
 use Rattle.vectors.specs.declared.Vec3.{Vec3}
-use Rattle.vectors.specs.Vectors.{origin, space, within3, nines, vec, _⊞_, _⊠_, _⊡_}
+use Rattle.vectors.specs.Vectors.{origin, space, within3, nines, vec, _⊞_, _⊡_}
 use Rattle.motions.specs.declared.Rows.{Rows}
 use Rattle.motions.specs.declared.Rigid.{Rigid}
 use Rattle.motions.specs.declared.Motion.{Motion}
@@ -24,10 +24,6 @@ unfoldable pub withinRigid : Rigid → Bool
 withinRigid m = within3 (m .rot .x) && (within3 (m .rot .y) && (within3 (m .rot .z) && within3 (m .shift)))
 
 -- ---- `Rigid::rotation`
--- the axis at length 1. It is worked out here and not by `unit`: an axis of no length has no name of its own among the refusals.
-unfoldable pub axisC : Vec3 → Checked Vec3
-axisC axis = vec axis ⊠ (num one ⊘ lengthC axis)
-
 -- t * a * a + c
 unfoldable pub diagonalC : Float → Float → Float → Checked Float
 diagonalC t a c = num t ⊗ num a ⊗ num a ⊕ num c
@@ -60,9 +56,10 @@ rowsC k s c t = do
 unfoldable pub rowsNine : Rows → ℕ
 rowsNine m = first (nines (m .x)) (first (nines (m .y)) (nines (m .z)))
 
+-- the rotation by `angle` about `axis` through the origin: the axis is tried before the angle's sine
 unfoldable pub rotationC : Vec3 → Float → Checked Rigid
 rotationC axis angle = do
-  k ← axisC axis
+  k ← overLengthC axis
   a ← sincosC angle
   t ← num one ⊖ num (a .cos)
   rot ← rowsC k (a .sin) (a .cos) t
@@ -85,6 +82,7 @@ frameDue o x y z = unless OUT-OF-RANGE (within3 o && (within3 x && (within3 y &&
 unfoldable pub applyVectorC : Rigid → Vec3 → Checked Vec3
 applyVectorC m v = rowC (vec (m .rot .x) ⊡ vec v) (vec (m .rot .y) ⊡ vec v) (vec (m .rot .z) ⊡ vec v)
 
+-- a point moved: turned, then shifted
 unfoldable pub applyC : Rigid → Vec3 → Checked Vec3
 applyC m p = applyVectorC m p ⊞ vec (m .shift)
 

@@ -1,13 +1,13 @@
 // The formulas of motions on numbers of any size.
 ghost use mathlib.Core.Path.{_≡_};
 ghost use Rattle.checked.specs.Checked.{first};
-ghost use Rattle.motions.specs.Motions.{axisC, diagonalC, moreC, lessC, rowsC, rowsNine, rotationC, applyVectorC, applyC, frameOf};
+ghost use Rattle.motions.specs.Motions.{diagonalC, moreC, lessC, rowsC, rowsNine, rotationC, applyVectorC, applyC, frameOf};
 use crate::CheckedRigid;
 use crate::Rigid;
 use crate::Rows;
 use checked::earlier;
 use checked::note;
-use directions::formula::length;
+use directions::formula::over_length;
 use libm::sincos::sincos;
 use vectors::CheckedVec3;
 use vectors::Vec3;
@@ -15,19 +15,6 @@ use vectors::formula::dot;
 use vectors::formula::noted;
 use vectors::formula::plus;
 use vectors::formula::times;
-
-// The axis at length 1.
-fn axis_of(axis: Vec3) -> CheckedVec3
-    ensures refusal { λ r. ⌜ r .refusal ≡ axisC axis .refusal ⌝ }
-    ensures value { λ r. ⌜ r .value ≡ axisC axis .value ⌝ }
-{
-    let l = length(axis);
-    let k = times(axis, 1.0 / l);
-    CheckedVec3 {
-        refusal: noted(k, note(0, l)),
-        value: k,
-    }
-}
 
 fn diagonal(t: f64, a: f64, c: f64) -> f64
     ensures { λ r. ⌜ r ≡ diagonalC t a c .value ⌝ }
@@ -123,7 +110,7 @@ pub fn rotation(axis: Vec3, angle: f64) -> CheckedRigid
     ensures refusal { λ r. ⌜ r .refusal ≡ rotationC axis angle .refusal ⌝ }
     ensures value { λ r. ⌜ r .value ≡ rotationC axis angle .value ⌝ }
 {
-    let k = axis_of(axis);
+    let k = over_length(axis);
     let a = sincos(angle);
     let t = 1.0 - a.cos;
     let m = rows(k.value, a.sin, a.cos, t);

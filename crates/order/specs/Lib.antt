@@ -3,4 +3,3 @@ pub mod Order
 pub mod Value
 pub mod Extremes
 pub mod Examples
-pub mod Merging

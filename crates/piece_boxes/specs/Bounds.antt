@@ -24,6 +24,7 @@ rimC origin axis start neutral radius u0 u1 v = do
 unfoldable pub rimsC : Vec3 → Vec3 → Vec3 → Float → Float → FlatBox → Checked (List Vec3)
 rimsC origin axis start neutral radius b = rimC origin axis start neutral radius (b .low .x) (b .high .x) (b .low .y) ⧺ rimC origin axis start neutral radius (b .low .x) (b .high .x) (b .high .y)
 
+-- those of a piece, by its box in the development
 unfoldable pub pointsC : Vec3 → Vec3 → Vec3 → Float → Run → Checked (List Vec3)
 pointsC origin axis start radius r = do
   b ← boxC r

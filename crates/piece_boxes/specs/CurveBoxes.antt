@@ -37,11 +37,13 @@ waveC w f g n = do
   v ← rangeC (w .a) (w .b) (w .c) (f .x) (g .x) n
   given (record { low = plane (least (f .x) (g .x)) (v .low); high = plane (greatest (f .x) (g .x)) (v .high) })
 
+-- of a piece, where its way is known
 abbrev pub boxBy : Way → Run → Checked FlatBox
 boxBy way.Straight r = given (ends (r .from) (r .to))
 boxBy (way.Arc a) r = arcC a (r .from) (r .to)
 boxBy (way.Wave w) r = waveC w (r .from) (r .to) (r .neutral)
 boxBy (way.Meet c) r = meets.boxC c
 
+-- `Rolled::uv_box`
 unfoldable pub boxC : Run → Checked FlatBox
 boxC r = boxBy (r .way) r

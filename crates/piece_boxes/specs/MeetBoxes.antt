@@ -1,11 +1,8 @@
 -- `Rolled::meet_box`: all samples first, then the windows between them.
-use Prim.Native.Nat.{ℕ, _+_, _<_}
-use mathlib.Core.Path.{_≡_}
+use Prim.Native.Nat.{ℕ, _+_}
 use mathlib.Core.Bool.{Bool, true, false, cond, _||_}
-use mathlib.Core.List.{List}
 use lib.Dec.{eqb}
-use lib.ListN.{getD}
-use lib.Ieee.{Float, nan, inf}
+use lib.Ieee.{inf}
 use Rattle.checked.specs.Checked.{Checked, first, _>>=_, given}
 use Rattle.vectors.specs.declared.Vec2.{Vec2}
 use Rattle.vectors.specs.Vectors.{plane}
@@ -45,6 +42,7 @@ endC c k b =
       given (widened b p))
     (given b)
 
+-- the place k: its derivatives, and the point where it is an end
 unfoldable pub stepC : Course → ℕ → FlatBox → Checked FlatBox
 stepC c k b = do
   d ← sampleC c k
@@ -69,8 +67,3 @@ unfoldable pub boxC : Course → Checked FlatBox
 boxC c = do
   b ← startC c
   foldC WINDOWS (spanC c) b
-
--- ---- the code's rows hold the derivatives at the first n places
-pub record Stored (c : Course) (n : ℕ) (us vs : List Float) : Type 0 where
-  pub along : (j : ℕ) → j < n → getD us j nan ≡ sampleC c j .value .x
-  pub upright : (j : ℕ) → j < n → getD vs j nan ≡ sampleC c j .value .y

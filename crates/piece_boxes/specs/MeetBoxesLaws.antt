@@ -16,7 +16,8 @@ use Rattle.vectors.specs.Vectors.{plane}
 use Rattle.piece_curves.specs.declared.meet_curves.Course.{Course}
 use Rattle.piece_curves.specs.Courses.{slopeUC, slopeVC}
 use Rattle.piece_boxes.specs.declared.brackets.FlatBox.{FlatBox}
-use Rattle.piece_boxes.specs.MeetBoxes.{sampleC, endC, stepC, spanC, Stored}
+use Rattle.piece_boxes.specs.MeetBoxes.{sampleC, endC, stepC, spanC}
+use Rattle.piece_boxes.specs.SampleRows.{Stored}
 use Rattle.piece_boxes.specs.Windows.{intervals, windowC}
 
 pub ruleset rules = (checked-rules)

@@ -45,6 +45,7 @@ halveC c upright rising g = do
   d ← slopeC c upright m
   given (chosen g m d rising)
 
+-- sixty halvings
 unfoldable pub halvedC : Course → Bool → Bool → Gap → Checked Gap
 halvedC c upright rising g = foldC HALVINGS (λ i a. halveC c upright rising a) g
 

@@ -1,25 +1,32 @@
 -- `Rolled::meet_at`: a piece that follows a meet, cut by what its callers read.
-use lib.Ieee.{Float, binary64}
+use lib.Ieee.{Float, binary64, add, sub, mul}
 use Rattle.checked.specs.Checked.{Checked, first, _>>=_, given, finite, num, _⊕_, _⊖_, _⊗_, _⊘_}
 use Rattle.checked.specs.Numbers.{one, tau}
 use Rattle.profile_arcs.specs.Angles.{atan2C}
 use Rattle.rounding.specs.Whole.{round-away}
 use Rattle.vectors.specs.declared.Vec2.{Vec2}
 use Rattle.vectors.specs.declared.Vec3.{Vec3}
-use Rattle.vectors.specs.Vectors.{plane}
+use Rattle.vectors.specs.Vectors.{plane, nines}
+use Rattle.meets.specs.declared.quadratic.Pipe.{Pipe}
 use Rattle.meets.specs.declared.quadratic.Reached.{Reached}
 use Rattle.meets.specs.Pipes.{reachC}
 use Rattle.meets.specs.Reaches as reaches
 use Rattle.meets.specs.declared.Turn.{Turn}
 use Rattle.meets.specs.declared.Turn.the-variants as turn
+use Rattle.meets.specs.declared.Meet.{Meet}
 use Rattle.piece_curves.specs.declared.meet_curves.Course.{Course}
 use Rattle.piece_curves.specs.declared.meet_curves.Place.{Place}
+
+-- the course along a meet whose pipe is worked out
+abbrev pub courseOf : Vec2 → Vec2 → Float → Meet → Pipe → Course
+courseOf from to n m pipe = record { from = from .x; to = to .x; neutral = n; turn = m .turn; pipe = pipe }
 
 -- how fast the angle runs
 abbrev pub rateBy : Turn → Course → Checked Float
 rateBy turn.Without c = (num (c .to) ⊖ num (c .from)) ⊘ num (c .neutral)
 rateBy (turn.Angles f g) c = num g ⊖ num f
 
+-- how fast the angle of a course runs
 unfoldable pub rateC : Course → Checked Float
 rateC c = rateBy (c .turn) c
 
@@ -28,6 +35,7 @@ abbrev pub angleBy : Turn → Course → Float → Checked Float
 angleBy turn.Without c t = (num (c .from) ⊕ (num (c .to) ⊖ num (c .from)) ⊗ num t) ⊘ num (c .neutral)
 angleBy (turn.Angles f g) c t = num f ⊗ (num one ⊖ num t) ⊕ num g ⊗ num t
 
+-- the angle of a course at t
 unfoldable pub angleC : Course → Float → Checked Float
 angleC c t = angleBy (c .turn) c t
 
@@ -73,6 +81,7 @@ abbrev pub slopeUBy : Turn → Course → Float → Checked Float
 slopeUBy turn.Without c t = num (c .to) ⊖ num (c .from)
 slopeUBy (turn.Angles f g) c t = aroundC c t
 
+-- of u along any course
 unfoldable pub slopeUC : Course → Float → Checked Float
 slopeUC c t = slopeUBy (c .turn) c t
 
@@ -93,18 +102,35 @@ nearC c q = do
   k ← finite (round-away binary64 turns)
   num u ⊕ num turn' ⊗ num k
 
+-- along a hole: by where the generatrix ends
 unfoldable pub holePointC : Course → Float → Checked Vec2
 holePointC c t = do
   q ← spotC c t
   u ← nearC c q
   given (plane u (q .z))
 
+-- where `turn` is known
 abbrev pub pointBy : Turn → Course → Float → Checked Vec2
 pointBy turn.Without c t = ownPointC c t
 pointBy (turn.Angles f g) c t = holePointC c t
 
+-- of any course
 unfoldable pub pointC : Course → Float → Checked Vec2
 pointC c t = pointBy (c .turn) c t
+
+-- the same by where the generatrix at t ends: its refusals but for the end's own numbers were met before
+abbrev pub placedBy : Turn → Course → Float → Vec3 → Checked Vec2
+placedBy turn.Without c t q = do
+  z ← finite (q .z)
+  given (plane (add binary64 (c .from) (mul binary64 (sub binary64 (c .to) (c .from)) t)) z)
+placedBy (turn.Angles f g) c t q = do
+  _ ← record { refusal = nines q; value = q }
+  u ← nearC c q
+  given (plane u (q .z))
+
+-- the same of any course
+unfoldable pub placedC : Course → Float → Vec3 → Checked Vec2
+placedC c t q = placedBy (c .turn) c t q
 
 -- ---- the point and its derivative. The rate is tried before the sine, as the Rust's order has it; all after the sine is refused by one number.
 unfoldable pub atC : Course → Float → Checked Place

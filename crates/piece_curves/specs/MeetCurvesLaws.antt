@@ -1,13 +1,12 @@
 -- Which notes suffice along a piece that follows a meet. Assumes nothing.
 use mathlib.Core.Path.{_≡_, refl, sym, ap, subst}
-use lib.Ieee.{Float, binary64, add, sub, mul}
-use Rattle.checked.specs.Checked.{Checked, first, nine, _>>=_, given, finite}
+use lib.Ieee.{Float, binary64, add, mul}
+use Rattle.checked.specs.Checked.{Checked, first, nine, _>>=_}
 use Rattle.checked.specs.Laws.{first-zero, swap, rules as checked-rules}
 use Rattle.profile_arcs.specs.Angles.{atan2C}
 use Rattle.rounding.specs.Laws.{rounded}
-use Rattle.vectors.specs.declared.Vec2.{Vec2}
 use Rattle.vectors.specs.declared.Vec3.{Vec3}
-use Rattle.vectors.specs.Vectors.{plane, nines, plusC, timesC}
+use Rattle.vectors.specs.Vectors.{plusC, timesC}
 use Rattle.vectors.specs.Laws.{rules as vectors-rules}
 use Rattle.meets.specs.declared.quadratic.Reached.{Reached}
 use Rattle.meets.specs.Pipes.{reachC}
@@ -17,7 +16,7 @@ use Rattle.meets.specs.GeneratrixLaws.{rules as reaches-rules}
 use Rattle.meets.specs.declared.Turn.{Turn}
 use Rattle.meets.specs.declared.Turn.the-variants as turn
 use Rattle.piece_curves.specs.declared.meet_curves.Course.{Course}
-use Rattle.piece_curves.specs.Courses.{rateBy, rateC, angleBy, angleC, reachedC, spotC, slopeVC, aroundC, nearC, ownPointC, holePointC, pointBy, pointC}
+use Rattle.piece_curves.specs.Courses.{rateBy, rateC, angleBy, angleC, reachedC, spotC, slopeVC, aroundC, nearC, ownPointC, holePointC, pointBy, pointC, placedBy, placedC}
 
 ruleset all = (checked-rules, rounded)
 
@@ -71,19 +70,7 @@ pub near-nine : (c : Course) (q : Vec3) → nearC c q .refusal ≡ nine (nearC c
 unfolding nearC
 near-nine c q = simp (atan2C, all)
 
--- ---- u and v, by where the generatrix at t ends: its refusals but for the end's own numbers were met before
-abbrev pub placedBy : Turn → Course → Float → Vec3 → Checked Vec2
-placedBy turn.Without c t q = do
-  z ← finite (q .z)
-  given (plane (add binary64 (c .from) (mul binary64 (sub binary64 (c .to) (c .from)) t)) z)
-placedBy (turn.Angles f g) c t q = do
-  _ ← record { refusal = nines q; value = q }
-  u ← nearC c q
-  given (plane u (q .z))
-
-unfoldable pub placedC : Course → Float → Vec3 → Checked Vec2
-placedC c t q = placedBy (c .turn) c t q
-
+-- ---- the point by where its generatrix ends
 -- without `turn` the angle is u over the neutral radius
 abbrev ownAngleC : Course → Float → Checked Float
 ownAngleC c t = angleBy turn.Without c t

@@ -45,6 +45,7 @@ arcPointC a from to t = do
   y ← num (a .center .y) ⊕ num (w .y)
   given (plane x y)
 
+-- the point on an arc, and its derivative: a quarter turn from the way out
 unfoldable pub arcC : ProfileArc → Vec2 → Vec2 → Float → Checked Place
 arcC a from to t = do
   w ← swungC a from to t
@@ -63,11 +64,13 @@ waveC w from to n t = do
   dv ← num (h .slope) ⊗ num du
   given (record { p = plane u (h .v); d = plane du dv })
 
+-- the point at t and its derivative, where the way is known
 abbrev pub atBy : Way → Run → Float → Checked Place
 atBy way.Straight r t = straightC (r .from) (r .to) t
 atBy (way.Arc a) r t = arcC a (r .from) (r .to) t
 atBy (way.Wave w) r t = waveC w (r .from) (r .to) (r .neutral) t
 atBy (way.Meet c) r t = courses.atC c t
 
+-- the point at t and its derivative
 unfoldable pub atC : Run → Float → Checked Place
 atC r t = atBy (r .way) r t

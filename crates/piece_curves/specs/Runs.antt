@@ -14,14 +14,20 @@ use Rattle.piece_curves.specs.declared.PieceTrace.the-variants as piece-
 use Rattle.piece_curves.specs.declared.Way.{Way}
 use Rattle.piece_curves.specs.declared.Way.the-variants as way
 use Rattle.piece_curves.specs.declared.Run.{Run}
+use Rattle.piece_curves.specs.Courses.{courseOf}
+
+-- the run of a piece, by the way that it follows
+abbrev pub runBy : Vec2 → Vec2 → Float → Way → Run
+runBy from to n w = record { from = from; to = to; neutral = n; way = w }
 
 -- along a meet. The Rust works out the pipe in each call of `Meet::point`, always the same, and
 -- refused by the number 9 alone, before any sine is due; here it is worked out first.
 unfoldable pub meetWayC : Vec2 → Vec2 → Float → Meet → Checked Way
 meetWayC from to n m = do
   p ← pipeC m n
-  given (way.Meet (record { from = from .x; to = to .x; neutral = n; turn = m .turn; pipe = p }))
+  given (way.Meet (courseOf from to n m p))
 
+-- along a trace
 unfoldable pub tracedC : Vec2 → Vec2 → Float → Trace → Checked Way
 tracedC from to n (trace.Wave w) = given (way.Wave w)
 tracedC from to n (trace.Meet m) = meetWayC from to n m
@@ -37,7 +43,8 @@ unfoldable pub wayC : Vec2 → Vec2 → Float → PieceArc → PieceTrace → Ch
 wayC from to n arc (piece-trace.With t) = tracedC from to n t
 wayC from to n arc piece-trace.Without = given (untraced arc)
 
+-- a piece ready to be followed
 unfoldable pub runC : Vec2 → Vec2 → Float → PieceArc → PieceTrace → Checked Run
 runC from to n arc trace' = do
   w ← wayC from to n arc trace'
-  given (record { from = from; to = to; neutral = n; way = w })
+  given (runBy from to n w)

@@ -32,6 +32,7 @@ waveC w from to n t = do
   v ← vC (w .a) (w .b) (w .c) u n
   given (plane u v)
 
+-- in the development, where the way is known
 abbrev pub flatBy : Way → Run → Float → Checked Vec2
 flatBy way.Straight r t = straightC (r .from) (r .to) t
 flatBy (way.Arc a) r t = arcPointC a (r .from) (r .to) t

@@ -3,8 +3,7 @@
 ghost use mathlib.Core.Path.{_≡_};
 ghost use Rattle.meets.specs.Pipes.{reachC};
 ghost use Rattle.meets.specs.Reaches.{speedC};
-ghost use Rattle.piece_curves.specs.Courses.{rateC, angleC, reachedC, spotC, slopeVC, aroundC, slopeUC, nearC, pointC, atC};
-ghost use Rattle.piece_curves.specs.MeetCurvesLaws.{placedC};
+ghost use Rattle.piece_curves.specs.Courses.{rateC, angleC, reachedC, spotC, slopeVC, aroundC, slopeUC, nearC, pointC, placedC, atC};
 use checked::TAU;
 use checked::earlier;
 use checked::note;

@@ -86,6 +86,7 @@ bendUC c t = do
   th ← angleBendC q q1 q2
   num (c .neutral) ⊗ num th ⊗ num k ⊗ num k
 
+-- of both, where `turn` is known
 abbrev pub meetBy : Turn → Course → Float → Checked Vec2
 meetBy turn.Without c t = do
   y ← bendVC c t
@@ -95,6 +96,7 @@ meetBy (turn.Angles f g) c t = do
   y ← bendVC c t
   given (plane x y)
 
+-- along any meet
 unfoldable pub meetC : Course → Float → Checked Vec2
 meetC c t = meetBy (c .turn) c t
 
@@ -116,11 +118,13 @@ arcC a from to t = do
   y ← minus (num phi) ⊗ num phi ⊗ (num (p .y) ⊖ num (a .center .y))
   given (plane x y)
 
+-- `Rolled::second`, where the way is known
 abbrev pub secondBy : Way → Run → Float → Checked Vec2
 secondBy way.Straight r t = given (plane zero zero)
 secondBy (way.Arc a) r t = arcC a (r .from) (r .to) t
 secondBy (way.Wave w) r t = waveC w (r .from) (r .to) (r .neutral) t
 secondBy (way.Meet c) r t = meetC c t
 
+-- `Rolled::second`: the second derivative in t
 unfoldable pub secondC : Run → Float → Checked Vec2
 secondC r t = secondBy (r .way) r t

@@ -36,9 +36,11 @@ ownBy (way.Arc a) rho chord = perTurnC rho chord
 ownBy (way.Wave w) rho chord = num most
 ownBy (way.Meet c) rho chord = num most
 
+-- the chords of a full turn of the piece
 unfoldable pub ownTurnC : Way → Float → Float → Checked Float
 ownTurnC w rho chord = ownBy w rho chord
 
+-- the greater of what its own turn asks for and what its way about the axis does
 unfoldable pub chordsC : Run → Float → Float → Checked ℕ
 chordsC r radius chord = do
   m ← measureC r
@@ -64,6 +66,7 @@ steepC du amp n = do
 unfoldable pub offC : Float → Float → Float → Float → Checked Float
 offC length amp n deviation = num length ⊗ sqrtC (num amp ⊘ (num n ⊗ num n) ⊘ (num eight ⊗ num deviation))
 
+-- along a wave
 unfoldable pub waveLineC : Wave → Vec2 → Vec2 → Float → Float → Checked ℕ
 waveLineC w from to n deviation = do
   du ← num (to .x) ⊖ num (from .x)
@@ -88,6 +91,7 @@ SAMPLES = 257
 unfoldable pub bendC : Course → Checked Float
 bendC c = foldC SAMPLES (sampleC c) zero
 
+-- along a meet
 unfoldable pub meetLineC : Course → Float → Checked ℕ
 meetLineC c deviation = do
   bend ← bendC c
@@ -101,5 +105,6 @@ lineBy (way.Arc a) r deviation = given 1
 lineBy (way.Wave w) r deviation = waveLineC w (r .from) (r .to) (r .neutral) deviation
 lineBy (way.Meet c) r deviation = meetLineC c deviation
 
+-- `Rolled::polyline`
 unfoldable pub polylineC : Run → Float → Checked ℕ
 polylineC r deviation = lineBy (r .way) r deviation

@@ -7,12 +7,16 @@ use Rattle.float_bits.specs.Words.{fabs}
 use Rattle.libm.specs.Roots.{hypot}
 use Rattle.checked.specs.Loops.{foldC}
 use Rattle.vectors.specs.declared.Vec2.{Vec2}
+use Rattle.vectors.specs.Vectors.{plane}
+use Rattle.waves.specs.declared.Wave.{Wave}
 use Rattle.profile_arcs.specs.declared.ProfileArc.{ProfileArc}
 use Rattle.profile_arcs.specs.Profiles.{betweenC, turnC}
+use Rattle.piece_curves.specs.declared.meet_curves.Course.{Course}
 use Rattle.piece_curves.specs.declared.meet_curves.Place.{Place}
 use Rattle.piece_curves.specs.declared.Way.{Way}
 use Rattle.piece_curves.specs.declared.Way.the-variants as way
 use Rattle.piece_curves.specs.declared.Run.{Run}
+use Rattle.piece_curves.specs.Runs.{runBy}
 use Rattle.piece_curves.specs.Points.{atC}
 use Rattle.piece_lengths.specs.declared.measures.Measure.{Measure}
 
@@ -54,12 +58,15 @@ furtherC s u v = do
   a ← betweenC u v
   num s ⊕ num (fabs a)
 
+-- the length of all chords
 unfoldable pub lengthC : Run → Checked Float
 lengthC r = foldC CHORDS (λ k s. longerC s (placeC r k .value .p) (placeC r (k + 1) .value .p)) zero
 
+-- how far the direction turns along them
 unfoldable pub turnedC : Run → Checked Float
 turnedC r = foldC CHORDS (λ k s. furtherC s (placeC r k .value .d) (placeC r (k + 1) .value .d)) zero
 
+-- both, after all places
 unfoldable pub tracedC : Run → Checked Measure
 tracedC r = do
   p ← placesC r
@@ -67,12 +74,20 @@ tracedC r = do
   turn ← turnedC r
   given (record { radius = zero; turn = turn; length = length })
 
+-- the run along a wave, and that along a meet: its ends and neutral radius are those of the course, and no others are read
+abbrev pub waveRun : Vec2 → Vec2 → Float → Wave → Run
+waveRun from to n w = runBy from to n (way.Wave w)
+
+abbrev pub followed : Course → Run
+followed c = runBy (plane zero zero) (plane zero zero) zero (way.Meet c)
+
 -- ---- a segment, and an arc
 unfoldable pub segmentC : Vec2 → Vec2 → Checked Measure
 segmentC from to = do
   length ← distanceC from to
   given (record { radius = zero; turn = zero; length = length })
 
+-- of an arc, whose turn times its radius is its length
 unfoldable pub arcC : ProfileArc → Vec2 → Vec2 → Checked Measure
 arcC a from to = do
   rho ← distanceC (a .center) from
@@ -80,11 +95,13 @@ arcC a from to = do
   length ← num rho ⊗ num (fabs t)
   given (record { radius = rho; turn = fabs t; length = length })
 
+-- the measure, where the way is known
 abbrev pub measureBy : Way → Run → Checked Measure
 measureBy way.Straight r = segmentC (r .from) (r .to)
 measureBy (way.Arc a) r = arcC a (r .from) (r .to)
 measureBy (way.Wave w) r = tracedC r
 measureBy (way.Meet c) r = tracedC r
 
+-- `Rolled::measure`
 unfoldable pub measureC : Run → Checked Measure
 measureC r = measureBy (r .way) r

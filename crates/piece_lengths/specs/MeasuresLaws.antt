@@ -8,16 +8,18 @@ use Rattle.libm.specs.Arctangent.{atan2}
 use Rattle.vectors.specs.declared.Vec2.{Vec2}
 use Rattle.vectors.specs.Vectors.{plane}
 use Rattle.waves.specs.declared.Wave.{Wave}
-use Rattle.checked.specs.Numbers.{float, zero}
+use Rattle.checked.specs.Numbers.{float}
 use Rattle.piece_curves.specs.declared.meet_curves.Course.{Course}
 use Rattle.piece_curves.specs.declared.meet_curves.Place.{Place}
 use Rattle.piece_curves.specs.Courses as courses
-use Rattle.piece_curves.specs.MeetCurvesLaws.{placedC, point-refusal, point-value}
+use Rattle.piece_curves.specs.Courses.{placedC}
+use Rattle.piece_curves.specs.MeetCurvesLaws.{point-refusal, point-value}
 use Rattle.piece_curves.specs.declared.Way.{Way}
 use Rattle.piece_curves.specs.declared.Way.the-variants as way
 use Rattle.piece_curves.specs.declared.Run.{Run}
+use Rattle.piece_curves.specs.Runs.{runBy}
 use Rattle.piece_curves.specs.Points.{atC}
-use Rattle.piece_lengths.specs.Measures.{steps, distanceC, placeC, placesC, longerC, furtherC, lengthC, turnedC, tracedC, measureBy, measureC}
+use Rattle.piece_lengths.specs.Measures.{steps, distanceC, placeC, placesC, longerC, furtherC, lengthC, turnedC, tracedC, waveRun, followed, measureBy, measureC}
 
 pub distance-refusal : (a b : Vec2) → distanceC a b .refusal ≡ first (nine (sub binary64 (b .x) (a .x))) (first (nine (sub binary64 (b .y) (a .y))) (nine (distanceC a b .value)))
 unfolding distanceC
@@ -38,16 +40,7 @@ pub further-refusal : (s : Float) (u v : Vec2) → furtherC s u v .refusal ≡ f
 unfolding furtherC
 further-refusal s u v = simp checked-rules
 
--- a piece that follows a wave, and one that follows a meet, whose ends and neutral radius are not read
-abbrev pub runBy : Vec2 → Vec2 → Float → Way → Run
-runBy from to n w = record { from = from; to = to; neutral = n; way = w }
-
-abbrev pub waveRun : Vec2 → Vec2 → Float → Wave → Run
-waveRun from to n w = runBy from to n (way.Wave w)
-
-abbrev pub followed : Course → Run
-followed c = runBy (plane zero zero) (plane zero zero) zero (way.Meet c)
-
+-- a run whose way is known
 pub way-known : (r : Run) (w : Way) → r .way ≡ w → runBy (r .from) (r .to) (r .neutral) w ≡ r
 way-known r w e = subst (λ (v : Way). runBy (r .from) (r .to) (r .neutral) v ≡ r) e refl
 

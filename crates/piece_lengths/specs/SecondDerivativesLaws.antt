@@ -12,7 +12,7 @@ use Rattle.meets.specs.Reaches as reaches
 use Rattle.piece_curves.specs.declared.meet_curves.Course.{Course}
 use Rattle.piece_curves.specs.Courses.{rateC, angleC}
 use Rattle.piece_curves.specs.MeetCurvesLaws.{rate-nine, angle-nine}
-use Rattle.piece_lengths.specs.Bends.{levelC, levelAtC, levelSlopeC, levelBendC, heightBendC, angleBendC, bendVC, bendUC}
+use Rattle.piece_lengths.specs.Bends.{levelC, heightBendC, angleBendC, bendVC}
 
 pub level-refusal : (p a : Vec3) (t : Float) → levelC p a t .refusal ≡ first (nine (levelC p a t .value .x)) (nine (levelC p a t .value .y))
 unfolding levelC
@@ -42,21 +42,6 @@ angleBend-refusal q q1 q2 = simp (swap (crossed q q1) (fourth q), swap (dividend
 pub bendV-refusal : (c : Course) (t : Float) → bendVC c t .refusal ≡ first (nine (rateC c .value)) (first (nine (angleC c t .value)) (first (heightBendC (c .pipe) (angleC c t .value) .refusal) (nine (bendVC c t .value))))
 unfolding bendVC
 bendV-refusal c t = simp (rate-nine, angle-nine, checked-rules)
-
-module _ (c : Course) (t : Float) where
-  -- what is read of the generatrix at t
-  abbrev at0 : Checked Vec2
-  at0 = levelAtC (c .pipe) (angleC c t .value)
-
-  abbrev at1 : Checked Vec2
-  at1 = levelSlopeC (c .pipe) (angleC c t .value)
-
-  abbrev at2 : Checked Vec2
-  at2 = levelBendC (c .pipe) (angleC c t .value)
-
-  pub bendU-refusal : bendUC c t .refusal ≡ first (nine (rateC c .value)) (first (nine (angleC c t .value)) (first (at0 .refusal) (first (at1 .refusal) (first (at2 .refusal) (first (angleBendC (at0 .value) (at1 .value) (at2 .value) .refusal) (nine (bendUC c t .value)))))))
-  unfolding bendUC
-  bendU-refusal = simp (rate-nine, angle-nine, checked-rules)
 
 -- a height is noted where it is multiplied
 pub heightBend-refusal : (p : Pipe) (phi : Float) → heightBendC p phi .refusal ≡ first (reachC p phi .refusal) (first (reaches.speedC p (reachC p phi .value) .refusal) (first (reaches.bendC p (reachC p phi .value) (reaches.speedC p (reachC p phi .value) .value) .refusal) (nine (heightBendC p phi .value))))

@@ -2,9 +2,8 @@
 ghost use mathlib.Core.Path.{_≡_};
 ghost use Rattle.checked.specs.Checked.{first, nine};
 ghost use Rattle.vectors.specs.Vectors.{plane};
-ghost use Rattle.piece_curves.specs.MeetCurvesLaws.{placedC};
-ghost use Rattle.piece_lengths.specs.MeasuresLaws.{waveRun, followed};
-ghost use Rattle.piece_lengths.specs.Measures.{distanceC, placeC, longerC, furtherC, tracedC, segmentC, arcC, measureC};
+ghost use Rattle.piece_curves.specs.Courses.{placedC};
+ghost use Rattle.piece_lengths.specs.Measures.{distanceC, placeC, longerC, furtherC, tracedC, waveRun, followed, segmentC, arcC, measureC};
 use checked::CheckedNumber;
 use checked::earlier;
 use checked::note;

@@ -7,7 +7,6 @@ use Rattle.vectors.specs.declared.Vec2.{Vec2}
 use Rattle.vectors.specs.declared.Vec3.{Vec3}
 use Rattle.vectors.specs.Vectors.{plane, vec, _⨯_}
 use Rattle.profile_arcs.specs.declared.ProfileArc.{ProfileArc}
-use Rattle.meets.specs.declared.quadratic.Pipe.{Pipe}
 use Rattle.waves.specs.declared.Wave.{Wave}
 use Rattle.waves.specs.Values as waves
 use Rattle.meets.specs.declared.Turn.{Turn}
@@ -16,8 +15,7 @@ use Rattle.meets.specs.declared.Meet.{Meet}
 use Rattle.meets.specs.Meets.{pipeC}
 use Rattle.traces.specs.declared.Trace.{Trace}
 use Rattle.traces.specs.declared.Trace.the-variants as trace
-use Rattle.piece_curves.specs.declared.meet_curves.Course.{Course}
-use Rattle.piece_curves.specs.Courses.{slopeUC, slopeVC}
+use Rattle.piece_curves.specs.Courses.{courseOf, slopeUC, slopeVC}
 use Rattle.developments.specs.Rolls.{radialC, alongC}
 use Rattle.piece_curves.specs.declared.PieceArc.{PieceArc}
 use Rattle.piece_curves.specs.declared.PieceArc.the-variants as piece-arc
@@ -46,6 +44,7 @@ arcC a p =
       y ← num (a .center .x) ⊖ num (p .x)
       given (plane x y))
 
+-- along a wave, at the u of p
 unfoldable pub waveC : Wave → Vec2 → Vec2 → Float → Vec2 → Checked Vec2
 waveC w from to n p = do
   du ← num (to .x) ⊖ num (from .x)
@@ -53,18 +52,14 @@ waveC w from to n p = do
   y ← num s ⊗ num du
   given (plane du y)
 
--- the course of a meet whose pipe is worked out
-abbrev pub courseOf : Meet → Vec2 → Vec2 → Float → Pipe → Course
-courseOf m from to n pipe = record { from = from .x; to = to .x; neutral = n; turn = m .turn; pipe = pipe }
-
 -- without `turn`: the derivative where u is that of p
 unfoldable pub ownC : Meet → Vec2 → Vec2 → Float → Vec2 → Checked Vec2
 ownC m from to n p = do
   du ← num (to .x) ⊖ num (from .x)
   t ← (num (p .x) ⊖ num (from .x)) ⊘ num du
   pipe ← pipeC m n
-  x ← slopeUC (courseOf m from to n pipe) t
-  y ← slopeVC (courseOf m from to n pipe) t
+  x ← slopeUC (courseOf from to n m pipe) t
+  y ← slopeVC (courseOf from to n m pipe) t
   given (plane x y)
 
 -- with it: the gradient at p is worked out first, then the pipe and what is read at the piece's
@@ -73,27 +68,32 @@ unfoldable pub holeC : Meet → Vec2 → Vec2 → Float → Vec2 → Checked Vec
 holeC m from to n p = do
   g ← gradientC (m .origin) (m .axis) (m .own) n p
   pipe ← pipeC m n
-  s ← sideC (m .origin) (m .axis) (m .own) (courseOf m from to n pipe)
+  s ← sideC (m .origin) (m .axis) (m .own) (courseOf from to n m pipe)
   given (facing g s)
 
+-- along a meet, where `turn` is known
 abbrev pub meetBy : Turn → Meet → Vec2 → Vec2 → Float → Vec2 → Checked Vec2
 meetBy turn.Without m from to n p = ownC m from to n p
 meetBy (turn.Angles f g) m from to n p = holeC m from to n p
 
+-- along a meet
 unfoldable pub meetC : Meet → Vec2 → Vec2 → Float → Vec2 → Checked Vec2
 meetC m from to n p = meetBy (m .turn) m from to n p
 
+-- along a trace
 unfoldable pub tracedC : Trace → Vec2 → Vec2 → Float → Vec2 → Checked Vec2
 tracedC (trace.Wave w) from to n p = waveC w from to n p
 tracedC (trace.Meet m) from to n p = meetC m from to n p
 
-unfoldable pub untracedC : PieceArc → Vec2 → Vec2 → Vec2 → Checked Vec2
-untracedC (piece-arc.With a) from to p = arcC a p
-untracedC piece-arc.Without from to p = straightC from to
+-- without an arc: along the trace, or straight on
+unfoldable pub withoutArcC : PieceTrace → Vec2 → Vec2 → Float → Vec2 → Checked Vec2
+withoutArcC (piece-trace.With t) from to n p = tracedC t from to n p
+withoutArcC piece-trace.Without from to n p = straightC from to
 
+-- an arc goes first, as in the Rust; a piece with both is refused where it is handed in
 unfoldable pub directionC : PieceArc → PieceTrace → Vec2 → Vec2 → Float → Vec2 → Checked Vec2
-directionC arc (piece-trace.With t) from to n p = tracedC t from to n p
-directionC arc piece-trace.Without from to n p = untracedC arc from to p
+directionC (piece-arc.With a) trace' from to n p = arcC a p
+directionC piece-arc.Without trace' from to n p = withoutArcC trace' from to n p
 
 -- ---- at r from the axis, where the piece has the direction d
 unfoldable pub normalC : Vec3 → Vec3 → Float → Vec2 → Vec2 → Float → Checked Vec3

@@ -1,7 +1,7 @@
 // The unit normal of the wall over a piece of a development, left of its direction: on numbers of
 // any size.
 ghost use mathlib.Core.Path.{_≡_};
-ghost use Rattle.piece_normals.specs.Normals.{straightC, arcC, waveC, ownC, holeC, meetC, tracedC, untracedC, directionC, normalC};
+ghost use Rattle.piece_normals.specs.Normals.{straightC, arcC, waveC, ownC, holeC, meetC, tracedC, withoutArcC, directionC, normalC};
 use crate::hole_directions::facing;
 use crate::hole_directions::gradient;
 use crate::hole_directions::side;
@@ -152,13 +152,13 @@ fn traced(t: Trace, from: Vec2, to: Vec2, n: f64, p: Vec2) -> CheckedVec2
     }
 }
 
-fn untraced(arc: PieceArc, from: Vec2, to: Vec2, p: Vec2) -> CheckedVec2
-    ensures refusal { λ r. ⌜ r .refusal ≡ untracedC arc from to p .refusal ⌝ }
-    ensures value { λ r. ⌜ r .value ≡ untracedC arc from to p .value ⌝ }
+fn without_arc(trace: PieceTrace, from: Vec2, to: Vec2, n: f64, p: Vec2) -> CheckedVec2
+    ensures refusal { λ r. ⌜ r .refusal ≡ withoutArcC trace from to n p .refusal ⌝ }
+    ensures value { λ r. ⌜ r .value ≡ withoutArcC trace from to n p .value ⌝ }
 {
-    match arc {
-        PieceArc::Without => straight(from, to),
-        PieceArc::With(a) => arc_direction(a, p),
+    match trace {
+        PieceTrace::Without => straight(from, to),
+        PieceTrace::With(t) => traced(t, from, to, n, p),
     }
 }
 
@@ -174,9 +174,9 @@ pub fn direction(
     ensures refusal { λ r. ⌜ r .refusal ≡ directionC arc trace from to n p .refusal ⌝ }
     ensures value { λ r. ⌜ r .value ≡ directionC arc trace from to n p .value ⌝ }
 {
-    match trace {
-        PieceTrace::Without => untraced(arc, from, to, p),
-        PieceTrace::With(t) => traced(t, from, to, n, p),
+    match arc {
+        PieceArc::Without => without_arc(trace, from, to, n, p),
+        PieceArc::With(a) => arc_direction(a, p),
     }
 }
 

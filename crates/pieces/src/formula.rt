@@ -7,7 +7,6 @@ ghost use Rattle.piece_curves.specs.Courses as courses;
 ghost use Rattle.piece_curves.specs.Runs as runs;
 ghost use Rattle.piece_curves.specs.Points.{atC};
 ghost use Rattle.piece_lengths.specs.Measures.{measureC};
-ghost use Rattle.pieces.specs.Laws.{courseOf, runBy};
 ghost use Rattle.pieces.specs.Pieces.{runC, back, normalC};
 use crate::Rolled;
 use crate::parts::arc_back;
@@ -86,8 +85,8 @@ pub fn normal(p: Rolled, q: Vec2, r: f64) -> CheckedVec3
 
 // ---- the point at t, and its derivative
 fn meet_at(from: Vec2, to: Vec2, n: f64, m: Meet, t: f64) -> CheckedPlace
-    ensures refusal { λ o. ⌜ o .refusal ≡ first (pipeC m n .refusal) (courses.atC (courseOf from to n m (pipeC m n .value)) t .refusal) ⌝ }
-    ensures value { λ o. ⌜ o .value ≡ courses.atC (courseOf from to n m (pipeC m n .value)) t .value ⌝ }
+    ensures refusal { λ o. ⌜ o .refusal ≡ first (pipeC m n .refusal) (courses.atC (courses.courseOf from to n m (pipeC m n .value)) t .refusal) ⌝ }
+    ensures value { λ o. ⌜ o .value ≡ courses.atC (courses.courseOf from to n m (pipeC m n .value)) t .value ⌝ }
 {
     let x = pipe(m, n);
     let p = x.value;
@@ -115,8 +114,8 @@ fn meet_at(from: Vec2, to: Vec2, n: f64, m: Meet, t: f64) -> CheckedPlace
 }
 
 fn traced_at(from: Vec2, to: Vec2, n: f64, f: Trace, t: f64) -> CheckedPlace
-    ensures refusal { λ o. ⌜ o .refusal ≡ first (runs.tracedC from to n f .refusal) (atC (runBy from to n (runs.tracedC from to n f .value)) t .refusal) ⌝ }
-    ensures value { λ o. ⌜ o .value ≡ atC (runBy from to n (runs.tracedC from to n f .value)) t .value ⌝ }
+    ensures refusal { λ o. ⌜ o .refusal ≡ first (runs.tracedC from to n f .refusal) (atC (runs.runBy from to n (runs.tracedC from to n f .value)) t .refusal) ⌝ }
+    ensures value { λ o. ⌜ o .value ≡ atC (runs.runBy from to n (runs.tracedC from to n f .value)) t .value ⌝ }
 {
     match f {
         Trace::Wave(w) => wave_at(w, from, to, n, t),
@@ -127,8 +126,8 @@ fn traced_at(from: Vec2, to: Vec2, n: f64, f: Trace, t: f64) -> CheckedPlace
 // What a call gave is taken apart: as a whole it would go through memory, its refusal's byte read
 // with the seven beside it.
 fn untraced_at(from: Vec2, to: Vec2, n: f64, a: PieceArc, t: f64) -> CheckedPlace
-    ensures refusal { λ o. ⌜ o .refusal ≡ atC (runBy from to n (runs.untraced a)) t .refusal ⌝ }
-    ensures value { λ o. ⌜ o .value ≡ atC (runBy from to n (runs.untraced a)) t .value ⌝ }
+    ensures refusal { λ o. ⌜ o .refusal ≡ atC (runs.runBy from to n (runs.untraced a)) t .refusal ⌝ }
+    ensures value { λ o. ⌜ o .value ≡ atC (runs.runBy from to n (runs.untraced a)) t .value ⌝ }
 {
     match a {
         PieceArc::Without => straight_at(from, to, t),
@@ -157,8 +156,8 @@ pub fn at(p: Rolled, t: f64) -> CheckedPlace
 
 // ---- the radius, the turn and the length
 fn untraced_measure(from: Vec2, to: Vec2, n: f64, a: PieceArc) -> CheckedMeasure
-    ensures refusal { λ o. ⌜ o .refusal ≡ measureC (runBy from to n (runs.untraced a)) .refusal ⌝ }
-    ensures value { λ o. ⌜ o .value ≡ measureC (runBy from to n (runs.untraced a)) .value ⌝ }
+    ensures refusal { λ o. ⌜ o .refusal ≡ measureC (runs.runBy from to n (runs.untraced a)) .refusal ⌝ }
+    ensures value { λ o. ⌜ o .value ≡ measureC (runs.runBy from to n (runs.untraced a)) .value ⌝ }
 {
     match a {
         PieceArc::Without => segment(from, to),

@@ -52,9 +52,6 @@ no-sum a b h = omega arith
 suc-same : (a b : ℕ) → suc a ≡ suc b → b ≡ a
 suc-same a b h = omega arith
 
-tidy : (m p q : ℕ) → m * p * q ≡ m * (p * q)
-tidy m p q = mul-assoc m p q
-
 cross-same : (m n : ℕ) (e g : ℤ) → m % 2 ≡ 1 → n % 2 ≡ 1 → m * up e * down g ≡ n * up g * down e → (m ≡ n) × (e ≡ g)
 cross-same m n (pos a) (pos b) o p h =
     let r = odd-pow m n a b o p (sym (mul-one (m * 2 ^ a)) ∙ h ∙ mul-one (n * 2 ^ b)) in

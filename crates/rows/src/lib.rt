@@ -4,9 +4,12 @@
 // notes the points 1 to m, and one that works them out into the start of a buffer with `put`. With
 // f for its definition of a point, the first one's contract is `upTo f m .refusal`, the second
 // one's that and `flat (upTo f m .value) ++ drop (3 * m)` of the buffer; `upTo-refusal` and
-// `point-put` are a step of them. Up to KEPT points are worked out once, into a buffer that
-// `copy_part` copies to the row; more of them are worked out twice. Crate rims is the pattern, and
+// `item-put` are a step of them. Up to KEPT points are worked out once, into a buffer that
+// `copy_part` copies to the row; more of them are worked out twice. `circles` is the pattern, and
 // its proofs, with another f, serve the next one.
+//
+// Definitions and laws are those of items of any width (`Item` in specs/Rows.antt); a point is one
+// of three numbers.
 ghost use mathlib.Core.Path.{_≡_};
 ghost use mathlib.Core.List.{_++_};
 ghost use Prim.Native.Nat.{_+_, _-_, _*_, _≤_};

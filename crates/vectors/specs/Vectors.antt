@@ -5,7 +5,7 @@ use lib.Ieee.{Float, binary64, add, sub, mul, div, neg}
 use Rattle.vectors.specs.declared.Vec2.{Vec2}
 use Rattle.vectors.specs.declared.Vec3.{Vec3}
 use Rattle.checked.specs.Refusals.{NOT-FINITE}
-use Rattle.checked.specs.Numbers.{zero}
+use Rattle.checked.specs.Numbers.{zero, one}
 use Rattle.checked.specs.Checked.{Checked, first, _>>=_, given, nine, isFinite, within, finite, num, _⊕_, _⊖_, _⊗_, _⊘_}
 
 -- all three numbers are finite
@@ -20,6 +20,7 @@ nines v = cond (isFinite3 v) 0 NOT-FINITE
 unfoldable pub within2 : Vec2 → Bool
 within2 v = within (v .x) && within (v .y)
 
+-- the same of one in space
 unfoldable pub within3 : Vec3 → Bool
 within3 v = within (v .x) && (within (v .y) && within (v .z))
 
@@ -27,12 +28,23 @@ within3 v = within (v .x) && (within (v .y) && within (v .z))
 abbrev pub plane : Float → Float → Vec2
 plane x y = record { x = x; y = y }
 
+-- the same in space
 abbrev pub space : Float → Float → Float → Vec3
 space x y z = record { x = x; y = y; z = z }
 
 -- the zero vector
 abbrev pub origin : Vec3
 origin = record { x = zero; y = zero; z = zero }
+
+-- the directions of the coordinates
+abbrev pub along-x : Vec3
+along-x = space one zero zero
+
+abbrev pub along-y : Vec3
+along-y = space zero one zero
+
+abbrev pub along-z : Vec3
+along-z = space zero zero one
 
 -- the sum
 unfoldable pub plusC : Vec3 → Vec3 → Checked Vec3
@@ -84,30 +96,35 @@ vec v = given v
 
 infixl 6 _⊞_ _⊟_
 infixl 7 _⊠_ _⊡_ _⨯_
+-- the sum
 abbrev pub _⊞_ : Checked Vec3 → Checked Vec3 → Checked Vec3
 _⊞_ m n = do
   a ← m
   b ← n
   plusC a b
 
+-- the difference
 abbrev pub _⊟_ : Checked Vec3 → Checked Vec3 → Checked Vec3
 _⊟_ m n = do
   a ← m
   b ← n
   minusC a b
 
+-- the product with a number
 abbrev pub _⊠_ : Checked Vec3 → Checked Float → Checked Vec3
 _⊠_ m n = do
   v ← m
   k ← n
   timesC v k
 
+-- the dot product
 abbrev pub _⊡_ : Checked Vec3 → Checked Vec3 → Checked Float
 _⊡_ m n = do
   a ← m
   b ← n
   dotC a b
 
+-- the cross product
 abbrev pub _⨯_ : Checked Vec3 → Checked Vec3 → Checked Vec3
 _⨯_ m n = do
   a ← m

@@ -125,6 +125,25 @@ impl Vec3 {
         z: 0.0,
     };
 
+    // The directions of the coordinates.
+    pub const ALONG_X: Self = Self {
+        x: 1.0,
+        y: 0.0,
+        z: 0.0,
+    };
+
+    pub const ALONG_Y: Self = Self {
+        x: 0.0,
+        y: 1.0,
+        z: 0.0,
+    };
+
+    pub const ALONG_Z: Self = Self {
+        x: 0.0,
+        y: 0.0,
+        z: 1.0,
+    };
+
     pub fn new(x: f64, y: f64, z: f64) -> Self
         ensures { λ r. ⌜ r ≡ space x y z ⌝ }
     {

@@ -2,12 +2,10 @@ use mathlib.Core.Path.{_≡_}
 use Prim.Native.Nat.{_≤_, _-_}
 use native.Mathlib.Omega.{arith}
 use borrow.Author.Needs.{needs}
-use Rattle.checked.specs.Checked.{first}
-use Rattle.checked.specs.Laws.{first-assoc, first-zero, rules as checked-rules}
+use Rattle.checked.specs.Laws.{first-assoc}
 use Rattle.checked.specs.Loops.{foldC}
-use Rattle.checked.specs.LoopsLaws.{fold-none, fold-refusal, fold-value}
-use Rattle.integrals.specs.Gauss.{stretchAtC}
-use Rattle.integrals.specs.Laws.{aloneC, alone-refusal, alone-value}
+use Rattle.checked.specs.LoopsLaws.{Done, met, met-none, met-more}
+use Rattle.integrals.specs.Laws.{aloneC, stretch-done}
 use Rattle.integrals.specs.Along.{nodeAtC}
 use Rattle.face_paths.specs.Paths.{trackAt}
 use Rattle.face_paths.proofs.stretch.Statement.{statement}
@@ -17,7 +15,7 @@ use Rattle.face_paths.proofs.stretch.Tie as tie
 abbrev Inv-loop : tie.InvT-loop
 Inv-loop v k h i mid a₀ j₀ a j =
     let step = aloneC (nodeAtC v (trackAt k) h) h mid in
-    (j ≤ 8) × ((a .refusal ≡ first (a₀ .refusal) (foldC j step (a₀ .value) .refusal)) × (a .value ≡ foldC j step (a₀ .value) .value))
+    (j ≤ 8) × Done (met (a₀ .refusal) (foldC j step (a₀ .value))) (a .refusal) (a .value)
 
 abbrev μ-loop : tie.MeasureT-loop
 μ-loop v k h i mid a₀ j₀ a j = 8 - j
@@ -29,7 +27,7 @@ note-requires : tie.Need-note-requires Inv-loop μ-loop
 note-requires c κs = search needs
 
 loop-holds : tie.Need-loop-holds Inv-loop μ-loop
-loop-holds c = (omega arith, (simp (fold-none, first-zero), simp fold-none))
+loop-holds c = (omega arith, met-none _ _ _)
 
 lies-noted-requires : tie.Need-lies-noted-requires Inv-loop μ-loop
 lies-noted-requires c κs = search needs
@@ -54,16 +52,15 @@ loop-less c = omega arith
 
 loop-again : tie.Need-loop-again Inv-loop μ-loop
 loop-again c =
-    let sums = c .before .before .before .before .before .loop .inv .1 in
     let n = c .node-at .ensures in
-    (omega arith, (simp (n .0, c .before .lies .ensures, c .before .before .lies-noted .ensures, sums .0, sums .1, fold-refusal, first-assoc), simp (n .1, c .before .lies .ensures, sums .1, fold-value)))
+    let more = met-more _ _ _ _ _ _ (c .before .before .before .before .before .loop .inv .1) in
+    (omega arith, simp (n .0, n .1, c .before .lies .ensures, c .before .before .lies-noted .ensures, first-assoc) more)
 
 returns : tie.Need-returns Inv-loop μ-loop
-unfolding stretchAtC
 returns c =
-    let sums = c .before .loop .inv .1 in
     let all : c .before .loop .j ≡ 8 = omega arith in
-    (simp (sums .0, all, c .before .before .note .ensures, checked-rules, alone-refusal), simp (sums .1, all, alone-value))
+    let done = stretch-done _ _ _ _ _ _ _ (rw (all, c .before .before .note .ensures) at (c .before .loop .inv .1)) in
+    (done .refusal, done .value)
 
 pub stretch-spec : {M : Type 1} → statement M
 stretch-spec =

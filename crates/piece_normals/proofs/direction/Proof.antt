@@ -6,30 +6,30 @@ use Rattle.piece_normals.proofs.direction.Tie as tie
 enum-told : tie.Need-enum-told
 enum-told c = search needs
 
-untraced-requires : tie.Need-untraced-requires
-untraced-requires c κs = search needs
+without-arc-requires : tie.Need-without-arc-requires
+without-arc-requires c κs = search needs
 
-enum-known-trace : tie.Need-enum-known-trace
-enum-known-trace c = search needs
+enum-known-arc : tie.Need-enum-known-arc
+enum-known-arc c = search needs
 
-traced-requires : tie.Need-traced-requires
-traced-requires c κs = search needs
+arc-direction-requires : tie.Need-arc-direction-requires
+arc-direction-requires c κs = search needs
 
 returns : tie.Need-returns
 unfolding directionC
-returns c = (simp (c .untraced .ensures .0, c .before .enum-told .given .1), simp (c .untraced .ensures .1, c .before .enum-told .given .1))
+returns c = (simp (c .without-arc .ensures .0, c .before .enum-told .given .1), simp (c .without-arc .ensures .1, c .before .enum-told .given .1))
 
 returns-2 : tie.Need-returns-2
 unfolding directionC
-returns-2 c = (simp (c .traced .ensures .0, c .before .before .trace .given .1), simp (c .traced .ensures .1, c .before .before .trace .given .1))
+returns-2 c = (simp (c .arc-direction .ensures .0, c .before .before .arc .given .1), simp (c .arc-direction .ensures .1, c .before .before .arc .given .1))
 
 pub direction-spec : {M : Type 1} → statement M
 direction-spec =
     tie.close
     (tie.spec
     enum-told
-    untraced-requires
-    enum-known-trace
-    traced-requires
+    without-arc-requires
+    enum-known-arc
+    arc-direction-requires
     returns
     returns-2)

@@ -2,6 +2,7 @@ use mathlib.Core.Path.{_≡_, sym, _∙_, ap}
 use borrow.Author.Needs.{needs}
 use lib.ListN.{length}
 use Rattle.rows.specs.Rows.{numberOf}
+use Rattle.rows.specs.Rows.{point}
 use Rattle.rows.specs.Laws.{part-length, part-refused}
 use Rattle.piece_rows.specs.Inner.{innersDue}
 use Rattle.piece_rows.specs.Laws.{inners-are}
@@ -25,7 +26,7 @@ returns c =
     let is = inners-are (start .g) (start .n) (length (start .row .now)) in
     record {
       number = simp (is, w .0, m);
-      part = simp (is, m) (sym (part-length _ _ _ _ (sym (simp m at (w .0)) ∙ c .if1 .taken)));
+      part = simp (is, m) (sym (part-length point _ _ _ _ (sym (simp m at (w .0)) ∙ c .if1 .taken)));
       rest = simp (is, w .1, m);
     }
 
@@ -41,7 +42,7 @@ returns-2 c =
     let number : c .before .before .before .write .result ≡ numberOf (innersDue (start .g) (start .n) (length (start .row .now))) = simp (is, w .0, m) in
     record {
       number = number;
-      part = sym (ap length (part-refused (innersDue (start .g) (start .n) (length (start .row .now))) (λ e. c .if1 .left (number ∙ e))));
+      part = sym (ap length (part-refused point (innersDue (start .g) (start .n) (length (start .row .now))) (λ e. c .if1 .left (number ∙ e))));
       rest = simp (is, w .1, m);
     }
 

@@ -4,7 +4,7 @@ use Rattle.checked.specs.Checked.{Checked, first}
 use Rattle.checked.specs.Laws.{zero-first}
 use Rattle.rows.specs.Rows.{upTo}
 use Rattle.piece_rows.specs.Inner.{innerC}
-use Rattle.rows.specs.Laws.{flat-length, points-due, points-refused}
+use Rattle.rows.specs.Laws.{flat-length, some-due, some-refused}
 use Rattle.piece_rows.proofs.write_twice.Statement.{statement}
 use Rattle.piece_rows.proofs.write_twice.Tie as tie
 
@@ -24,7 +24,7 @@ returns c =
     let f = innerC (start .g) (start .n) in
     let none = c .before .before .before .before .if1 .taken in
     let r : first 0 (upTo f (start .m) .refusal) ≡ noted .work-out .result = simp (zero-first, noted .work-out .ensures .0) in
-    let due = points-due 0 f (start .m) (r ∙ none) in
+    let due = some-due 0 f (start .m) (r ∙ none) in
     (simp (due, none), simp (due, c .before .before .work-out2 .ensures .1, noted .work-out .ensures .1, flat-length))
 
 same-length-2 : tie.Need-same-length-2
@@ -36,7 +36,7 @@ returns-2 c =
     let start = noted .before .before .before .args in
     let f = innerC (start .g) (start .n) in
     let r : noted .work-out .result ≡ first 0 (upTo f (start .m) .refusal) = simp (zero-first, noted .work-out .ensures .0) in
-    let due = points-refused 0 f (start .m) (λ z. c .if1 .left (r ∙ z)) in
+    let due = some-refused 0 f (start .m) (λ z. c .if1 .left (r ∙ z)) in
     (simp (due, r), simp (due, noted .work-out .ensures .1))
 
 pub write-twice-spec : {M : Type 1} → statement M

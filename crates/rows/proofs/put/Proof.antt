@@ -1,6 +1,8 @@
+use Prim.Native.Nat.{_*_}
 use native.Mathlib.Omega.{arith}
 use lib.ListN.{length-set}
 use borrow.Author.Needs.{needs}
+use Rattle.rows.specs.Laws.{three-stored}
 use Rattle.rows.proofs.put.Statement.{statement}
 use Rattle.rows.proofs.put.Tie as tie
 
@@ -35,7 +37,7 @@ same-length : tie.Need-same-length
 same-length c = search needs
 
 returns : tie.Need-returns
-returns c = search needs
+returns c = three-stored (c .args .buf .now) (3 * c .args .i) (c .args .p .x) (c .args .p .y) (c .args .p .z)
 
 pub put-spec : {M : Type 1} → statement M
 put-spec =

@@ -2,6 +2,7 @@ use mathlib.Core.Path.{_≡_, sym, _∙_}
 use borrow.Author.Needs.{needs}
 use Rattle.checked.specs.Checked.{Checked}
 use Rattle.checked.specs.Laws.{settled-none, settled-some}
+use Rattle.rows.specs.Rows.{point}
 use Rattle.rows.specs.Laws.{drawn-refused}
 use Rattle.arcs.specs.Cuts.{cutC}
 use Rattle.arcs.specs.Entries.{innerPointsDue}
@@ -19,7 +20,7 @@ write-points-requires c κs = search needs
 
 returns : tie.Need-returns
 unfolding innerPointsDue
-returns c = simp (c .if2 .taken, sym (c .before .before .chord-within .ensures) ∙ c .before .if1 .taken) (drawn-refused _ _)
+returns c = simp (c .if2 .taken, sym (c .before .before .chord-within .ensures) ∙ c .before .if1 .taken) (drawn-refused point _ _)
 
 same-length : tie.Need-same-length
 same-length c = search needs
@@ -41,11 +42,11 @@ returns-3 c =
     let start = before .before .before .before .before .args in
     let cut = c .before .before .cut-up .ensures in
     let due = settled-some (cutC (start .self .center) (start .self .axis) (start .self .radius) (start .from) (start .to) (start .chord) .refusal) (cutC (start .self .center) (start .self .axis) (start .self .radius) (start .from) (start .to) (start .chord) .value) (λ e. c .if3 .left (cut .0 ∙ e)) in
-    simp (before .if2 .left, sym (before .before .before .chord-within .ensures) ∙ before .before .if1 .taken, due, cut .0) (drawn-refused _ _)
+    simp (before .if2 .left, sym (before .before .before .chord-within .ensures) ∙ before .before .if1 .taken, due, cut .0) (drawn-refused point _ _)
 
 returns-4 : tie.Need-returns-4
 unfolding innerPointsDue
-returns-4 c = simp (sym (c .before .chord-within .ensures) ∙ c .if1 .left) (drawn-refused _ _)
+returns-4 c = simp (sym (c .before .chord-within .ensures) ∙ c .if1 .left) (drawn-refused point _ _)
 
 pub write-inner-points-spec : {M : Type 1} → statement M
 write-inner-points-spec =

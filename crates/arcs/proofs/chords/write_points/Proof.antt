@@ -2,6 +2,7 @@ use mathlib.Core.Path.{_≡_, refl, sym, _∙_, ap}
 use borrow.Author.Needs.{needs}
 use lib.ListN.{length}
 use Rattle.rows.specs.Rows.{numberOf, allDue}
+use Rattle.rows.specs.Rows.{point}
 use Rattle.rows.specs.Laws.{part-length, part-refused}
 use Rattle.arcs.specs.Cuts.{innersDue}
 use Rattle.arcs.specs.ChordsLaws.{inners-are}
@@ -33,7 +34,7 @@ returns c =
     let is : innersDue (start .center) (start .axis) (start .radius) (start .from) (start .cut) (length (start .row .now)) ≡ allDue _ _ _ _ = inners-are (start .center) (start .axis) (start .radius) (start .from) (start .cut) (length (start .row .now)) in
     record {
       number = simp (is, w .0, m, q, d .0, d .1);
-      part = simp (is, m) (sym (part-length _ _ _ _ (sym (simp (m, q, d .0, d .1) at (w .0)) ∙ c .if1 .taken)));
+      part = simp (is, m) (sym (part-length point _ _ _ _ (sym (simp (m, q, d .0, d .1) at (w .0)) ∙ c .if1 .taken)));
       rest = simp (is, w .1, m, q, d .0, d .1);
     }
 
@@ -51,7 +52,7 @@ returns-2 c =
     let number : c .before .before .before .write .result ≡ numberOf (innersDue (start .center) (start .axis) (start .radius) (start .from) (start .cut) (length (start .row .now))) = simp (is, w .0, m, q, d .0, d .1) in
     record {
       number = number;
-      part = sym (ap length (part-refused (innersDue (start .center) (start .axis) (start .radius) (start .from) (start .cut) (length (start .row .now))) (λ e. c .if1 .left (number ∙ e))));
+      part = sym (ap length (part-refused point (innersDue (start .center) (start .axis) (start .radius) (start .from) (start .cut) (length (start .row .now))) (λ e. c .if1 .left (number ∙ e))));
       rest = simp (is, w .1, m, q, d .0, d .1);
     }
 

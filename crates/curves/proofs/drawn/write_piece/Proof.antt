@@ -3,6 +3,7 @@ use borrow.Author.Needs.{needs}
 use Rattle.checked.specs.Checked.{Checked}
 use Rattle.checked.specs.Laws.{settled-none, settled-some}
 use Rattle.checked.specs.HandedLaws.{passing-none}
+use Rattle.rows.specs.Rows.{point}
 use Rattle.rows.specs.Laws.{drawn-refused}
 use Rattle.curves.specs.DrawnEntries.{chordsOf, pieceDue}
 use Rattle.curves.specs.DrawnLaws.{drawn-failed}
@@ -39,7 +40,7 @@ returns-2 c =
     let tried = cut .before .before in
     let start = tried .before .before .args in
     let due = settled-some (chordsOf (start .w) (start .chord) .refusal) (chordsOf (start .w) (start .chord) .value) (λ e. c .if2 .left (cut .cut-up .ensures .0 ∙ e)) in
-    simp (cut .before .if1 .taken, passing-none, ← tried .tried .ensures, due, cut .cut-up .ensures .0) (drawn-refused _ _)
+    simp (cut .before .if1 .taken, passing-none, ← tried .tried .ensures, due, cut .cut-up .ensures .0) (drawn-refused point _ _)
 
 returns-3 : tie.Need-returns-3
 unfolding pieceDue

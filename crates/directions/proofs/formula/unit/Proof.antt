@@ -1,27 +1,14 @@
 use borrow.Author.Needs.{needs}
 use Rattle.directions.specs.Directions.{unitC}
-use Rattle.checked.specs.Laws.{first-assoc, zero-first}
-use Rattle.directions.specs.Laws.{unit-refusal}
-use mathlib.Core.Path.{sym, _∙_}
 use Rattle.directions.proofs.formula.unit.Statement.{statement}
 use Rattle.directions.proofs.formula.unit.Tie as tie
 
-length-requires : tie.Need-length-requires
-length-requires c κs = search needs
-
-times-requires : tie.Need-times-requires
-times-requires c κs = search needs
-
-note-requires : tie.Need-note-requires
-note-requires c κs = search needs
-
-noted-requires : tie.Need-noted-requires
-noted-requires c κs = search needs
+over-length-requires : tie.Need-over-length-requires
+over-length-requires c κs = search needs
 
 returns : tie.Need-returns
 unfolding unitC
-returns c = ((simp (c .noted .ensures, c .before .note .ensures, c .before .before .times .ensures, c .before .before .before .length .ensures, first-assoc, zero-first)) ∙ sym (unit-refusal (c .before .before .before .before .args .v)), simp (c .before .before .times .ensures, c .before .before .before .length .ensures))
+returns c = (simp (c .over-length .ensures .0), simp (c .over-length .ensures .1))
 
 pub unit-spec : {M : Type 1} → statement M
-unit-spec =
-    tie.close (tie.spec length-requires times-requires note-requires noted-requires returns)
+unit-spec = tie.close (tie.spec over-length-requires returns)

@@ -5,8 +5,8 @@ use Rattle.motions.specs.Laws.{rules as motions-rules}
 use Rattle.motions.proofs.formula.rotation.Statement.{statement}
 use Rattle.motions.proofs.formula.rotation.Tie as tie
 
-axis-of-requires : tie.Need-axis-of-requires
-axis-of-requires c κs = search needs
+over-length-requires : tie.Need-over-length-requires
+over-length-requires c κs = search needs
 
 sincos-requires : tie.Need-sincos-requires
 sincos-requires c κs = search needs
@@ -25,13 +25,13 @@ rows-noted-requires c κs = search needs
 
 returns : tie.Need-returns
 unfolding rotationC
-returns c = (simp (c .rows-noted .ensures, c .before .note .ensures, c .before .before .earlier .ensures, c .before .before .before .rows .ensures, c .before .before .before .before .before .sincos .ensures .0, c .before .before .before .before .before .sincos .ensures .1 .0, c .before .before .before .before .before .sincos .ensures .1 .1, c .before .before .before .before .before .before .axis-of .ensures .0, c .before .before .before .before .before .before .axis-of .ensures .1, checked-rules, motions-rules), simp (c .before .before .before .rows .ensures, c .before .before .before .before .before .sincos .ensures .1 .0, c .before .before .before .before .before .sincos .ensures .1 .1, c .before .before .before .before .before .before .axis-of .ensures .1))
+returns c = (simp (c .rows-noted .ensures, c .before .note .ensures, c .before .before .earlier .ensures, c .before .before .before .rows .ensures, c .before .before .before .before .before .sincos .ensures .0, c .before .before .before .before .before .sincos .ensures .1 .0, c .before .before .before .before .before .sincos .ensures .1 .1, c .before .before .before .before .before .before .over-length .ensures .0, c .before .before .before .before .before .before .over-length .ensures .1, checked-rules, motions-rules), simp (c .before .before .before .rows .ensures, c .before .before .before .before .before .sincos .ensures .1 .0, c .before .before .before .before .before .sincos .ensures .1 .1, c .before .before .before .before .before .before .over-length .ensures .1))
 
 pub rotation-spec : {M : Type 1} → statement M
 rotation-spec =
     tie.close
     (tie.spec
-    axis-of-requires
+    over-length-requires
     sincos-requires
     rows-requires
     earlier-requires

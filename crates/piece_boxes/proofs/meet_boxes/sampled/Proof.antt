@@ -6,7 +6,8 @@ use lib.ListN.{length, length-set}
 use lib.Ieee.{ofBits, neg, div}
 use Rattle.checked.specs.Loops.{foldC}
 use Rattle.checked.specs.LoopsLaws.{Done, done-none, done-more}
-use Rattle.piece_boxes.specs.MeetBoxes.{empty, stepC, startC, Stored}
+use Rattle.piece_boxes.specs.MeetBoxes.{empty, stepC, startC}
+use Rattle.piece_boxes.specs.SampleRows.{Stored}
 use Rattle.piece_boxes.specs.MeetBoxesLaws.{stored-none, stored-more, step-refusal, step-value, sample-refusal, sample-value}
 use Rattle.piece_boxes.proofs.meet_boxes.sampled.Statement.{statement}
 use Rattle.piece_boxes.proofs.meet_boxes.sampled.Tie as tie

@@ -6,8 +6,8 @@ use lib.ListN.{length, drop, length-set}
 use borrow.Author.Needs.{needs}
 use Rattle.checked.specs.Checked.{Checked}
 use Rattle.rows.specs.Rims.{rimAtC}
-use Rattle.rows.specs.Rows.{upTo, flat}
-use Rattle.rows.specs.Laws.{upTo-refusal, point-put}
+use Rattle.rows.specs.Rows.{upTo, flatItems, flat, point as points}
+use Rattle.rows.specs.Laws.{upTo-refusal, item-put}
 use Rattle.rows.proofs.circles.work_out.Statement.{statement}
 use Rattle.rows.proofs.circles.work_out.Tie as tie
 
@@ -19,7 +19,7 @@ abbrev μ-loop : tie.MeasureT-loop
 μ-loop buf₀ rim turn n m r₀ i₀ buf r i = m - i
 
 loop-holds : tie.Need-loop-holds Inv-loop μ-loop
-unfolding upTo flat
+unfolding upTo flatItems
 loop-holds c = (omega arith, refl, refl, refl)
 
 add-point-at : tie.Need-add-point-at Inv-loop μ-loop
@@ -49,7 +49,7 @@ loop-again c =
       omega arith,
       simp (put, length-set) (now .inv .1),
       simp (c .earlier .ensures, point .0, now .inv .2, upTo-refusal),
-      simp (put, point .1, now .inv .3) (point-put (rimAtC (start .args .rim) (start .args .turn) (start .args .n)) (start .args .buf .now) (now .i) (omega (arith, start .pre))),
+      simp (put, point .1, now .inv .3) (item-put points (rimAtC (start .args .rim) (start .args .turn) (start .args .n)) (start .args .buf .now) (now .i) (omega (arith, start .pre))),
     )
 
 same-length : tie.Need-same-length Inv-loop μ-loop
