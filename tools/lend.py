@@ -43,8 +43,8 @@ def reach(c, seen):
     return seen
 
 def declared(name):
-    """(kind, crate, module, fields) of a struct or an enum"""
-    for c in [crate] + reach(crate, []):
+    """(kind, crate, module, fields) of a struct or an enum; of two by one name, that of a crate which this one rests on itself"""
+    for c in [crate] + [d for d in deps[crate].split() if d in deps] + reach(crate, []):
         for mod, text in sources(c).items():
             m = re.search(r'^(?:pub )?(struct|enum) ' + name + r' \{\n(.*?)^\}', text, re.M | re.S)
             if m:

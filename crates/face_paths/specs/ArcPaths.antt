@@ -1,6 +1,6 @@
 -- An arc as a path on a surface of revolution.
 use lib.Ieee.{Float}
-use Rattle.checked.specs.Checked.{Checked, _>>=_, given, num, _⊕_, _⊗_, _⊘_}
+use Rattle.checked.specs.Checked.{Checked, first, _>>=_, given, num, _⊕_, _⊗_, _⊘_}
 use Rattle.checked.specs.Numbers.{one, quarterPi}
 use Rattle.float_bits.specs.Words.{fabs}
 use Rattle.vectors.specs.declared.Vec3.{Vec3}
@@ -40,4 +40,5 @@ courseAt c t = do
 unfoldable pub arcPathC : Revolved → Arc → Vec3 → Vec3 → Integrals → Checked Integrals
 arcPathC w arc u v s = do
   c ← courseC (w .frame) arc u v
-  pathAlongC w (courseAt c) (c .stretches) s
+  t ← pathAlongC w (courseAt c) (c .stretches) (s .surface)
+  given (record { surface = t })

@@ -1,6 +1,6 @@
 -- The running sums of a face after a path.
 use lib.Ieee.{Float}
-use Rattle.checked.specs.Checked.{Checked, first, _>>=_}
+use Rattle.checked.specs.Checked.{Checked, first, _>>=_, given}
 use Rattle.vectors.specs.declared.Vec2.{Vec2}
 use Rattle.vectors.specs.declared.Vec3.{Vec3}
 use Rattle.developments.specs.declared.Development.{Development}
@@ -30,7 +30,8 @@ unfoldable pub piecePathC : Revolved → Development → Vec2 → Vec2 → Piece
 piecePathC v dev from to arc trace s = do
   c ← driftC (v .frame) (dev .origin) (dev .axis) (dev .start) (runC from to (dev .neutral) arc trace)
   n ← quadratureC (c .run)
-  pathAlongC v (driftAt c) n s
+  t ← pathAlongC v (driftAt c) n (s .surface)
+  given (record { surface = t })
 
 -- ---- where a path's call works out the surface for itself
 -- an arc from u to v

@@ -17,6 +17,7 @@ use checked::note;
 use cones::Cone;
 use developments::Development;
 use integrals::CheckedIntegrals;
+use integrals::CheckedSurfaceIntegrals;
 use integrals::Integrals;
 use integrals::WEIGHTS;
 use integrals::integrands::CheckedPlace;
@@ -54,7 +55,14 @@ fn place_at(k: Track, t: f64) -> CheckedPlace
 }
 
 // The sums after the node at t.
-fn node_at(v: Revolved, k: Track, h: f64, wgt: f64, t: f64, s: CheckedIntegrals) -> CheckedIntegrals
+fn node_at(
+    v: Revolved,
+    k: Track,
+    h: f64,
+    wgt: f64,
+    t: f64,
+    s: CheckedSurfaceIntegrals,
+) -> CheckedSurfaceIntegrals
     ensures refusal { λ r. ⌜ r .refusal ≡ first (s .refusal) (nodeAtC v (trackAt k) h wgt t (s .value) .refusal) ⌝ }
     ensures value { λ r. ⌜ r .value ≡ nodeAtC v (trackAt k) h wgt t (s .value) .value ⌝ }
 {
@@ -66,7 +74,7 @@ fn node_at(v: Revolved, k: Track, h: f64, wgt: f64, t: f64, s: CheckedIntegrals)
         p,
         h,
         wgt,
-        CheckedIntegrals {
+        CheckedSurfaceIntegrals {
             value: sums,
             refusal: earlier(s.refusal, q.refusal),
         },
@@ -74,13 +82,19 @@ fn node_at(v: Revolved, k: Track, h: f64, wgt: f64, t: f64, s: CheckedIntegrals)
 }
 
 // The stretch i, of length h.
-fn stretch(v: Revolved, k: Track, h: f64, i: u16, s: CheckedIntegrals) -> CheckedIntegrals
+fn stretch(
+    v: Revolved,
+    k: Track,
+    h: f64,
+    i: u16,
+    s: CheckedSurfaceIntegrals,
+) -> CheckedSurfaceIntegrals
     ensures refusal { λ r. ⌜ r .refusal ≡ first (s .refusal) (stretchAtC (nodeAtC v (trackAt k)) h i (s .value) .refusal) ⌝ }
     ensures value { λ r. ⌜ r .value ≡ stretchAtC (nodeAtC v (trackAt k)) h i (s .value) .value ⌝ }
 {
     let mid = h * ((i as f64) + 0.5);
     let start = s.value;
-    let mut a = CheckedIntegrals {
+    let mut a = CheckedSurfaceIntegrals {
         value: start,
         refusal: note(s.refusal, mid),
     };
@@ -94,7 +108,7 @@ fn stretch(v: Revolved, k: Track, h: f64, i: u16, s: CheckedIntegrals) -> Checke
             h,
             WEIGHTS[j / 2],
             lies(h, mid, j),
-            CheckedIntegrals {
+            CheckedSurfaceIntegrals {
                 value: sums,
                 refusal: r,
             },
@@ -105,13 +119,13 @@ fn stretch(v: Revolved, k: Track, h: f64, i: u16, s: CheckedIntegrals) -> Checke
 }
 
 // All n stretches of the path.
-fn along(v: Revolved, k: Track, n: u16, s: CheckedIntegrals) -> CheckedIntegrals
+fn along(v: Revolved, k: Track, n: u16, s: CheckedSurfaceIntegrals) -> CheckedSurfaceIntegrals
     ensures refusal { λ r. ⌜ r .refusal ≡ first (s .refusal) (pathAlongC v (trackAt k) n (s .value) .refusal) ⌝ }
     ensures value { λ r. ⌜ r .value ≡ pathAlongC v (trackAt k) n (s .value) .value ⌝ }
 {
     let h = 1.0 / (n as f64);
     let start = s.value;
-    let mut a = CheckedIntegrals {
+    let mut a = CheckedSurfaceIntegrals {
         value: start,
         refusal: note(s.refusal, h),
     };
@@ -140,15 +154,21 @@ pub fn with_arc(
     let c = course_of(s.frame, arc, u, v);
     let d = c.value;
     let n = d.stretches;
-    along(
+    let before = sums.surface;
+    let a = along(
         s,
         Track::Arc(d),
         n,
-        CheckedIntegrals {
-            value: sums,
+        CheckedSurfaceIntegrals {
+            value: before,
             refusal: earlier(w.refusal, c.refusal),
         },
-    )
+    );
+    let after = a.value;
+    CheckedIntegrals {
+        value: Integrals { surface: after },
+        refusal: a.refusal,
+    }
 }
 
 // The running sums after a piece of the development `dev`.
@@ -171,13 +191,19 @@ pub fn with_piece(
     let c = drift_of(s.frame, dev.origin, dev.axis, dev.start, r);
     let d = c.value;
     let n = quadrature_pieces(d.run);
-    along(
+    let before = sums.surface;
+    let a = along(
         s,
         Track::Piece(d),
         n.value,
-        CheckedIntegrals {
-            value: sums,
+        CheckedSurfaceIntegrals {
+            value: before,
             refusal: earlier(earlier(w.refusal, c.refusal), n.refusal),
         },
-    )
+    );
+    let after = a.value;
+    CheckedIntegrals {
+        value: Integrals { surface: after },
+        refusal: a.refusal,
+    }
 }

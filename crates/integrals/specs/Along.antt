@@ -3,7 +3,7 @@
 use Prim.Native.Nat.{ℕ}
 use lib.Ieee.{Float}
 use Rattle.checked.specs.Checked.{Checked, _>>=_}
-use Rattle.integrals.specs.declared.Integrals.{Integrals}
+use Rattle.integrals.specs.declared.SurfaceIntegrals.{SurfaceIntegrals}
 use Rattle.integrals.specs.Gauss.{alongC}
 use Rattle.integrals.specs.declared.integrands.Revolved.{Revolved}
 use Rattle.integrals.specs.declared.integrands.Place.{Place}
@@ -11,11 +11,11 @@ use Rattle.integrals.specs.Integrands.{nodeC}
 
 module _ (v : Revolved) (path : Float → Checked Place) where
   -- the sums after the node at t, of weight `wgt`, on a stretch of length h
-  unfoldable pub nodeAtC : Float → Float → Float → Integrals → Checked Integrals
+  unfoldable pub nodeAtC : Float → Float → Float → SurfaceIntegrals → Checked SurfaceIntegrals
   nodeAtC h wgt t s = do
     p ← path t
     nodeC v p h wgt s
 
   -- `along`: the sums after n stretches of the path
-  abbrev pub pathAlongC : ℕ → Integrals → Checked Integrals
+  abbrev pub pathAlongC : ℕ → SurfaceIntegrals → Checked SurfaceIntegrals
   pathAlongC n s = alongC nodeAtC n s

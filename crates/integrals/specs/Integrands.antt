@@ -10,7 +10,7 @@ use Rattle.rounding.specs.Computations.{sqrtC}
 use Rattle.libm.specs.Circle.{sincosC}
 use Rattle.cones.specs.declared.Cone.{Cone}
 use Rattle.cones.specs.Frames.{frameC}
-use Rattle.integrals.specs.declared.Integrals.{Integrals}
+use Rattle.integrals.specs.declared.SurfaceIntegrals.{SurfaceIntegrals}
 use Rattle.integrals.specs.declared.integrands.Revolved.{Revolved}
 use Rattle.integrals.specs.declared.integrands.Bearing.{Bearing}
 use Rattle.integrals.specs.declared.integrands.Place.{Place}
@@ -33,7 +33,7 @@ bearingC v theta = do
   given (record { out = out; normal = normal })
 
 -- the eight integrands, without the sign of the normal
-unfoldable pub patchC : Revolved → Bearing → Float → Checked Integrals
+unfoldable pub patchC : Revolved → Bearing → Float → Checked SurfaceIntegrals
 patchC v b s = do
   r ← num (v .radius) ⊕ num (v .slope) ⊗ num s
   x ← vec (v .p0) ⊞ vec (b .out) ⊠ num r ⊞ vec (v .frame .axis) ⊠ num s
@@ -46,7 +46,7 @@ patchC v b s = do
   nz ← num r ⊗ num (b .normal .z)
   given (record { «six_v» = volume; moment = m; area = area; «area_vector» = record { x = nx; y = ny; z = nz } })
 
-unfoldable pub integrandC : Revolved → Float → Float → Checked Integrals
+unfoldable pub integrandC : Revolved → Float → Float → Checked SurfaceIntegrals
 integrandC v theta s = do
   b ← bearingC v theta
   patchC v b s
@@ -63,7 +63,7 @@ term3C w s a b c = do
   z ← termC w (s .z) (a .z) (b .z) (c .z)
   given (record { x = x; y = y; z = z })
 
-unfoldable pub termsC : Float → Integrals → Integrals → Integrals → Integrals → Checked Integrals
+unfoldable pub termsC : Float → SurfaceIntegrals → SurfaceIntegrals → SurfaceIntegrals → SurfaceIntegrals → Checked SurfaceIntegrals
 termsC w s a b c = do
   area ← termC w (s .area) (a .area) (b .area) (c .area)
   volume ← termC w (s .«six_v») (a .«six_v») (b .«six_v») (c .«six_v»)
@@ -76,7 +76,7 @@ unfoldable pub weightC : Place → Float → Float → Checked Float
 weightC p h wgt = num half ⊗ num h ⊗ num wgt ⊗ num (p .turn) ⊗ num (p .z) ⊘ num six
 
 -- the sums after a node of weight `wgt`, where the path is at p, on a piece of length h
-unfoldable pub nodeC : Revolved → Place → Float → Float → Integrals → Checked Integrals
+unfoldable pub nodeC : Revolved → Place → Float → Float → SurfaceIntegrals → Checked SurfaceIntegrals
 nodeC v p h wgt s = do
   f0 ← integrandC v (p .theta) zero
   middle ← num half ⊗ num (p .z)

@@ -17,8 +17,8 @@ use Rattle.rounding.specs.Computations.{sqrtC}
 use Rattle.libm.specs.Circle.{sincosC}
 use Rattle.cones.specs.declared.Cone.{Cone}
 use Rattle.cones.specs.Frames.{frameC}
-use Rattle.integrals.specs.declared.Integrals.{Integrals}
-use Rattle.integrals.specs.Sums.{finiteSums, sumsNine}
+use Rattle.integrals.specs.declared.SurfaceIntegrals.{SurfaceIntegrals}
+use Rattle.integrals.specs.Sums.{finiteSurface, surfaceNine}
 use Rattle.integrals.specs.Laws.{Finite, sums-ok, area-first, the-volume, the-moment, the-area, the-vector, sums-of}
 use Rattle.integrals.specs.declared.integrands.Revolved.{Revolved}
 use Rattle.integrals.specs.declared.integrands.Bearing.{Bearing}
@@ -48,7 +48,7 @@ term3-nine : (w : Float) (s a b c : Vec3) → term3C w s a b c .refusal ≡ nine
 unfolding term3C isFinite3
 term3-nine w s a b c = simp (nines-ok, term-nine, checked-rules, nine-ok, ok-and)
 
-terms-nine : (w : Float) (s a b c : Integrals) → termsC w s a b c .refusal ≡ sumsNine (termsC w s a b c .value)
+terms-nine : (w : Float) (s a b c : SurfaceIntegrals) → termsC w s a b c .refusal ≡ surfaceNine (termsC w s a b c .value)
 unfolding termsC
 terms-nine w s a b c = simp (term-nine, term3-nine, first-zero) (area-first (termsC w s a b c .value))
 
@@ -63,14 +63,14 @@ eight false true false n = refl
 eight false false true n = refl
 eight false false false n = refl
 
-patch-nine : (v : Revolved) (b : Bearing) (s : Float) → patchC v b s .refusal ≡ ok (finiteSums (patchC v b s .value))
-unfolding finiteSums
+patch-nine : (v : Revolved) (b : Bearing) (s : Float) → patchC v b s .refusal ≡ ok (finiteSurface (patchC v b s .value))
+unfolding finiteSurface
 patch-nine v b s =
     let e = patchC v b s .value in
     patch-refusal v b s
     ∙ simp (nines-ok, nine-ok, ok-and) (eight (isFinite (e .area)) (isFinite3 (e .moment)) (isFinite (e .«six_v»)) (isFinite (e .«area_vector» .x) && (isFinite (e .«area_vector» .y) && isFinite (e .«area_vector» .z))) ∙ ap ok (whole e))
   where
-    whole : (e : Integrals) → (isFinite (e .«six_v») && (isFinite3 (e .moment) && (isFinite (e .area) && (isFinite (e .«area_vector» .x) && (isFinite (e .«area_vector» .y) && isFinite (e .«area_vector» .z)))))) ≡ (isFinite (e .«six_v») && (isFinite3 (e .moment) && (isFinite (e .area) && isFinite3 (e .«area_vector»))))
+    whole : (e : SurfaceIntegrals) → (isFinite (e .«six_v») && (isFinite3 (e .moment) && (isFinite (e .area) && (isFinite (e .«area_vector» .x) && (isFinite (e .«area_vector» .y) && isFinite (e .«area_vector» .z)))))) ≡ (isFinite (e .«six_v») && (isFinite3 (e .moment) && (isFinite (e .area) && isFinite3 (e .«area_vector»))))
     whole e = unfold isFinite3 in refl
 
 -- ---- what finite sums tell
@@ -107,7 +107,7 @@ term3-parts w s a b c h =
     let z = term-parts w (s .z) (a .z) (b .z) (c .z) (the-z v h) in
     (x .0, (three a (x .1 .0) (y .1 .0) (z .1 .0), (three b (x .1 .1 .0) (y .1 .1 .0) (z .1 .1 .0), three c (x .1 .1 .1) (y .1 .1 .1) (z .1 .1 .1))))
 
-terms-parts : (w : Float) (s a b c : Integrals) → T (finiteSums (termsC w s a b c .value)) → T (isFinite w) × (T (finiteSums a) × (T (finiteSums b) × T (finiteSums c)))
+terms-parts : (w : Float) (s a b c : SurfaceIntegrals) → T (finiteSurface (termsC w s a b c .value)) → T (isFinite w) × (T (finiteSurface a) × (T (finiteSurface b) × T (finiteSurface c)))
 unfolding termsC
 terms-parts w s a b c h =
     let e = termsC w s a b c .value in
@@ -118,7 +118,7 @@ terms-parts w s a b c h =
     (v .0, (sums-of a (v .1 .0) (m .1 .0) (t .1 .0) (n .1 .0), (sums-of b (v .1 .1 .0) (m .1 .1 .0) (t .1 .1 .0) (n .1 .1 .0), sums-of c (v .1 .1 .1) (m .1 .1 .1) (t .1 .1 .1) (n .1 .1 .1))))
 
 -- a patch's normal, and its place along the axis
-patch-parts : (v : Revolved) (b : Bearing) (s : Float) → T (finiteSums (patchC v b s .value)) → T (isFinite3 (b .normal)) × T (isFinite s)
+patch-parts : (v : Revolved) (b : Bearing) (s : Float) → T (finiteSurface (patchC v b s .value)) → T (isFinite3 (b .normal)) × T (isFinite s)
 unfolding patchC
 patch-parts v b s h =
     let e = patchC v b s .value in
@@ -139,28 +139,28 @@ chain : (s : ℕ) (n p₀ m p₁ p₂ w t : Bool) → (T t → T n) → (T t →
 chain (suc s) n p₀ m p₁ p₂ w t a b c d e f = unfold first in refl
 chain zero n p₀ m p₁ p₂ w t a b c d e f = simp (first-assoc, zero-first, absorb n t a, absorb p₀ t b, absorb m t c, absorb p₁ t d, absorb p₂ t e, absorb w t f)
 
-module _ (v : Revolved) (p : Place) (h wgt : Float) (s : Integrals) where
+module _ (v : Revolved) (p : Place) (h wgt : Float) (s : SurfaceIntegrals) where
   abbrev bearing : Bearing
   bearing = bearingC v (p .theta) .value
 
   abbrev middle : Float
   middle = mul binary64 half (p .z)
 
-  abbrev at : Float → Integrals
+  abbrev at : Float → SurfaceIntegrals
   at z = patchC v bearing z .value
 
   pub node-value : nodeC v p h wgt s .value ≡ termsC (weightC p h wgt .value) s (at nought) (at middle) (at (p .z)) .value
   unfolding nodeC integrandC
   node-value = refl
 
-  pub node-refusal : nodeC v p h wgt s .refusal ≡ first (sincosC (p .theta) .refusal) (sumsNine (nodeC v p h wgt s .value))
+  pub node-refusal : nodeC v p h wgt s .refusal ≡ first (sincosC (p .theta) .refusal) (surfaceNine (nodeC v p h wgt s .value))
   unfolding nodeC integrandC
   node-refusal =
       let w = weightC p h wgt .value in
-      let t = finiteSums (termsC w s (at nought) (at middle) (at (p .z)) .value) in
-      let parts : T t → T (isFinite w) × (T (finiteSums (at nought)) × (T (finiteSums (at middle)) × T (finiteSums (at (p .z))))) = terms-parts w s (at nought) (at middle) (at (p .z)) in
+      let t = finiteSurface (termsC w s (at nought) (at middle) (at (p .z)) .value) in
+      let parts : T t → T (isFinite w) × (T (finiteSurface (at nought)) × (T (finiteSurface (at middle)) × T (finiteSurface (at (p .z))))) = terms-parts w s (at nought) (at middle) (at (p .z)) in
       simp (bearing-refusal, patch-nine, weight-nine, terms-nine, nines-ok, nine-ok w, nine-ok middle, sums-ok, zero-first)
-      (chain (sincosC (p .theta) .refusal) (isFinite3 (bearing .normal)) (finiteSums (at nought)) (isFinite middle) (finiteSums (at middle)) (finiteSums (at (p .z))) (isFinite w) t
+      (chain (sincosC (p .theta) .refusal) (isFinite3 (bearing .normal)) (finiteSurface (at nought)) (isFinite middle) (finiteSurface (at middle)) (finiteSurface (at (p .z))) (isFinite w) t
       (λ f. patch-parts v bearing nought (parts f .1 .0) .0)
       (λ f. parts f .1 .0)
       (λ f. patch-parts v bearing middle (parts f .1 .1 .0) .1)

@@ -7,26 +7,33 @@ use Rattle.checked.specs.Refusals.{BAD-BOX-OR-SUMS, NOT-FINITE}
 use Rattle.checked.specs.Checked.{isFinite, Due, due, refused, unless}
 use Rattle.checked.specs.Numbers.{zero, one}
 use Rattle.vectors.specs.Vectors.{origin, isFinite3}
+use Rattle.integrals.specs.declared.SurfaceIntegrals.{SurfaceIntegrals}
 use Rattle.integrals.specs.declared.Integrals.{Integrals}
 use Rattle.integrals.specs.declared.Outcome.{Outcome}
 use Rattle.integrals.specs.declared.Added.{Added}
 use Rattle.integrals.specs.declared.Added.the-variants as added-variants
 
+-- ---- what is integrated over surfaces
 -- all eight numbers are finite
-unfoldable pub finiteSums : Integrals → Bool
-finiteSums s = isFinite (s .«six_v») && (isFinite3 (s .moment) && (isFinite (s .area) && isFinite3 (s .«area_vector»)))
+unfoldable pub finiteSurface : SurfaceIntegrals → Bool
+finiteSurface s = isFinite (s .«six_v») && (isFinite3 (s .moment) && (isFinite (s .area) && isFinite3 (s .«area_vector»)))
 
 -- the refusal of sums that are the result
-unfoldable pub sumsNine : Integrals → ℕ
-sumsNine s = cond (finiteSums s) 0 NOT-FINITE
+unfoldable pub surfaceNine : SurfaceIntegrals → ℕ
+surfaceNine s = cond (finiteSurface s) 0 NOT-FINITE
 
 -- the side that the sign of a dot product tells: 1 above 0, else -1
 unfoldable pub side : Float → Float
 side d = cond (lt zero d) one (neg one)
 
+-- ---- the sums
+-- all their numbers are finite
+unfoldable pub finiteSums : Integrals → Bool
+finiteSums s = finiteSurface (s .surface)
+
 -- nothing summed yet
 abbrev pub nothing : Integrals
-nothing = record { «six_v» = zero; moment = origin; area = zero; «area_vector» = origin }
+nothing = record { surface = record { «six_v» = zero; moment = origin; area = zero; «area_vector» = origin } }
 
 -- what the code's answer says
 abbrev pub addedDue : Added → Due Integrals

@@ -4,8 +4,8 @@ ghost use mathlib.Core.Path.{_≡_};
 ghost use Rattle.checked.specs.Checked.{first};
 ghost use Rattle.libm.specs.Circle.{sincosC};
 ghost use Rattle.integrals.specs.Integrands.{revolvedC, bearingC, patchC, termC, term3C, termsC, nodeC};
-use crate::CheckedIntegrals;
-use crate::Integrals;
+use crate::CheckedSurfaceIntegrals;
+use crate::SurfaceIntegrals;
 use checked::earlier;
 use checked::note;
 use cones::Cone;
@@ -99,14 +99,14 @@ fn bearing_at(v: Revolved, theta: f64) -> CheckedBearing
 }
 
 // The integrands at s along the axis.
-fn patch(v: Revolved, b: Bearing, s: f64) -> Integrals
+fn patch(v: Revolved, b: Bearing, s: f64) -> SurfaceIntegrals
     ensures { λ r. ⌜ r ≡ patchC v b s .value ⌝ }
 {
     let r = v.radius + v.slope * s;
     let x = plus(plus(v.p0, times(b.out, r)), times(v.frame.axis, s));
     let height = dot(v.p0, b.normal) + r - v.slope * s;
     let m = times(x, 6.0 * r * height);
-    Integrals {
+    SurfaceIntegrals {
         six_v: 2.0 * r * height,
         moment: m,
         area: r * v.stretch,
@@ -135,10 +135,16 @@ fn term3(w: f64, s: Vec3, a: Vec3, b: Vec3, c: Vec3) -> Vec3
     }
 }
 
-fn terms(w: f64, s: Integrals, a: Integrals, b: Integrals, c: Integrals) -> Integrals
+fn terms(
+    w: f64,
+    s: SurfaceIntegrals,
+    a: SurfaceIntegrals,
+    b: SurfaceIntegrals,
+    c: SurfaceIntegrals,
+) -> SurfaceIntegrals
     ensures { λ r. ⌜ r ≡ termsC w s a b c .value ⌝ }
 {
-    Integrals {
+    SurfaceIntegrals {
         six_v: term(w, s.six_v, a.six_v, b.six_v, c.six_v),
         moment: term3(w, s.moment, a.moment, b.moment, c.moment),
         area: term(w, s.area, a.area, b.area, c.area),
@@ -154,7 +160,13 @@ fn terms(w: f64, s: Integrals, a: Integrals, b: Integrals, c: Integrals) -> Inte
 
 // The sums after a node of weight `wgt` on a piece of length h: the new sums are finite only where
 // all that they are made of is.
-pub fn node(v: Revolved, p: Place, h: f64, wgt: f64, s: CheckedIntegrals) -> CheckedIntegrals
+pub fn node(
+    v: Revolved,
+    p: Place,
+    h: f64,
+    wgt: f64,
+    s: CheckedSurfaceIntegrals,
+) -> CheckedSurfaceIntegrals
     ensures refusal { λ r. ⌜ r .refusal ≡ first (s .refusal) (nodeC v p h wgt (s .value) .refusal) ⌝ }
     ensures value { λ r. ⌜ r .value ≡ nodeC v p h wgt (s .value) .value ⌝ }
 {
@@ -169,7 +181,7 @@ pub fn node(v: Revolved, p: Place, h: f64, wgt: f64, s: CheckedIntegrals) -> Che
         patch(v, b, 0.5 * p.z),
         patch(v, b, p.z),
     );
-    CheckedIntegrals {
+    CheckedSurfaceIntegrals {
         value: after,
         refusal: after.noted(earlier(s.refusal, c.refusal)),
     }

@@ -17,11 +17,11 @@ sigma convex = cond convex one (neg one)
 -- what is added to the sums of a body
 unfoldable pub closeC : Integrals → Bool → Integrals → Checked Integrals
 closeC acc convex s = do
-  area ← num (acc .area) ⊕ num (sigma convex) ⊗ num (s .area)
-  volume ← num (acc .«six_v») ⊕ num (s .«six_v»)
-  moment ← vec (acc .moment) ⊞ vec (s .moment)
-  vector ← vec (acc .«area_vector») ⊞ vec (s .«area_vector»)
-  given (record { «six_v» = volume; moment = moment; area = area; «area_vector» = vector })
+  area ← num (acc .surface .area) ⊕ num (sigma convex) ⊗ num (s .surface .area)
+  volume ← num (acc .surface .«six_v») ⊕ num (s .surface .«six_v»)
+  moment ← vec (acc .surface .moment) ⊞ vec (s .surface .moment)
+  vector ← vec (acc .surface .«area_vector») ⊞ vec (s .surface .«area_vector»)
+  given (record { surface = record { «six_v» = volume; moment = moment; area = area; «area_vector» = vector } })
 
 -- what closing is due: the cone is tried, then both sums
 unfoldable pub closeDue : Cone → Integrals → Integrals → Due Integrals

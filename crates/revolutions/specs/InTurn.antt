@@ -18,8 +18,8 @@ use Rattle.vectors.specs.Vectors.{isFinite3, within3}
 use Rattle.cones.specs.declared.Cone.{Cone}
 use Rattle.cones.specs.Entries.{coneWithin}
 use Rattle.integrals.specs.declared.Integrals.{Integrals}
-use Rattle.integrals.specs.Sums.{finiteSums, nothing}
-use Rattle.integrals.specs.Laws.{Finite}
+use Rattle.integrals.specs.Sums.{finiteSurface, finiteSums, nothing}
+use Rattle.integrals.specs.Laws.{FiniteSums}
 use Rattle.checked.specs.Lists.{foldListC, list-sound, list-once}
 use Rattle.integrals.specs.declared.integrands.Revolved.{Revolved}
 use Rattle.integrals.specs.Integrands.{revolvedC}
@@ -33,17 +33,17 @@ use Rattle.checked.specs.FaceTestsLaws.{tests-none, accepted as tests-accepted}
 use Rattle.revolutions.specs.Revolutions.{Path, arc, piece, pathWithin, pathNeutral, pathSingle, liesOn, pathC, sumsC, revolutionC, every, faceWithin, revolutionDue, openDue, addC, addDue, andThen, addedInTurn, inTurn}
 
 -- ---- sums stay finite
-each-sound : (v : Revolved) (p : Path) (s : Integrals) → pathC v p s .refusal ≡ 0 → Finite s → Finite (pathC v p s .value)
-unfolding pathC arcPathC piecePathC
-each-sound v (arc a from to) s e g = path-sound v (courseAt _) _ s (first-none _ _ e .1) g
-each-sound v (piece dev from to arc' trace) s e g = path-sound v (driftAt _) _ s (first-none _ _ (first-none _ _ e .1) .1) g
+each-sound : (v : Revolved) (p : Path) (s : Integrals) → pathC v p s .refusal ≡ 0 → FiniteSums s → FiniteSums (pathC v p s .value)
+unfolding pathC arcPathC piecePathC finiteSums
+each-sound v (arc a from to) s e g = path-sound v (courseAt _) _ (s .surface) (first-none _ _ (first-none _ _ e .1) .0) g
+each-sound v (piece p) s e g = path-sound v (driftAt _) _ (s .surface) (first-none _ _ (first-none _ _ (first-none _ _ e .1) .1) .0) g
 
-add-sound : (cone : Cone) (o : Vec3) (p : Path) (s : Integrals) → addC cone o p s .refusal ≡ 0 → Finite s → Finite (addC cone o p s .value)
+add-sound : (cone : Cone) (o : Vec3) (p : Path) (s : Integrals) → addC cone o p s .refusal ≡ 0 → FiniteSums s → FiniteSums (addC cone o p s .value)
 unfolding addC
 add-sound cone o p s e g = each-sound (revolvedC cone o .value) p s (first-none _ _ e .1) g
 
-nothing-finite : Finite nothing
-unfolding finiteSums isFinite3 isFinite ofBits
+nothing-finite : FiniteSums nothing
+unfolding finiteSums finiteSurface isFinite3 isFinite ofBits
 nothing-finite = tt
 
 -- ---- tests
@@ -83,11 +83,11 @@ module _ (cone : Cone) (o : Vec3) where
   each-is (p ∷ ps) = list-once (pathC (revolvedC cone o .value)) (revolvedC cone o .refusal) p ps nothing
 
   module _ (face : faceWithin cone o ≡ true) where
-    add-is : (p : Path) (s : Integrals) → Fit cone p → Finite s → addDue cone o p s ≡ answered (addC cone o p s)
+    add-is : (p : Path) (s : Integrals) → Fit cone p → FiniteSums s → addDue cone o p s ≡ answered (addC cone o p s)
     unfolding addDue
     add-is p s t f = passing-none _ _ (tests-none (faceWithin cone o && pathWithin p) (pathNeutral p) (pathSingle p) (finiteSums s) (liesOn cone p) (simp (face, t .0), (t .1 .0, (t .1 .1 .0, (is-true (finiteSums s) f, t .1 .1 .1)))))
 
-    added-are : (ps : List Path) (s : Integrals) → AllFit cone ps → Finite s → addedInTurn cone o ps s ≡ answered (foldListC (addC cone o) ps s)
+    added-are : (ps : List Path) (s : Integrals) → AllFit cone ps → FiniteSums s → addedInTurn cone o ps s ≡ answered (foldListC (addC cone o) ps s)
     unfolding addedInTurn every foldListC
     added-are [] s t f = unfold settled in refl
     added-are (p ∷ ps) s t f =
@@ -100,7 +100,7 @@ module _ (cone : Cone) (o : Vec3) where
         ∙ then-settled (m .refusal) (m .value) (addedInTurn cone o ps) (foldListC (addC cone o) ps (m .value))
         (λ z. added-are ps (m .value) (one .1, (two .1, (three .1, seven .1))) (add-sound cone o p s z f))
 
-    close-is : (s acc : Integrals) → Finite s → finiteSums acc ≡ true → closeDue cone s acc ≡ answered (closeC acc (cone .convex) s)
+    close-is : (s acc : Integrals) → FiniteSums s → finiteSums acc ≡ true → closeDue cone s acc ≡ answered (closeC acc (cone .convex) s)
     unfolding closeDue
     close-is s acc f a = simp (cone-within, a, is-true (finiteSums s) f)
       where
@@ -117,7 +117,7 @@ module _ (cone : Cone) (o : Vec3) where
 
       closed : andThen (answered sums) (λ s. closeDue cone s acc) ≡ settled (first (sums .refusal) (closeC acc (cone .convex) (sums .value) .refusal)) (closeC acc (cone .convex) (sums .value) .value)
       closed = then-settled (sums .refusal) (sums .value) (λ s. closeDue cone s acc) (closeC acc (cone .convex) (sums .value))
-          (λ z. close-is (sums .value) acc (list-sound Finite (addC cone o) (add-sound cone o) ps nothing z nothing-finite) a)
+          (λ z. close-is (sums .value) acc (list-sound FiniteSums (addC cone o) (add-sound cone o) ps nothing z nothing-finite) a)
 
       turned : inTurn cone o ps acc ≡ answered (revolutionC cone o ps acc)
       unfolding inTurn revolutionC

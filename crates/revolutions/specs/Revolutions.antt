@@ -6,16 +6,13 @@ use lib.Ieee.{Float, lt, eq}
 use Rattle.checked.specs.Refusals.{OUT-OF-RANGE}
 use Rattle.checked.specs.Checked.{Checked, first, _>>=_, given, Due, due, refused, answered, unless}
 use Rattle.checked.specs.Numbers.{zero}
-use Rattle.vectors.specs.declared.Vec2.{Vec2}
 use Rattle.vectors.specs.declared.Vec3.{Vec3}
-use Rattle.vectors.specs.Vectors.{within2, within3}
+use Rattle.vectors.specs.Vectors.{within3}
 use Rattle.arcs.specs.declared.Arc.{Arc}
 use Rattle.arcs.specs.Sweeps.{endsWithin}
-use Rattle.developments.specs.declared.Development.{Development}
-use Rattle.developments.specs.Developments.{developmentWithin}
-use Rattle.piece_curves.specs.declared.PieceArc.{PieceArc}
-use Rattle.piece_curves.specs.declared.PieceTrace.{PieceTrace}
-use Rattle.pieces.specs.Tests.{arcWithin, followedWithin, both}
+use Rattle.pieces.specs.declared.Rolled.{Rolled}
+use Rattle.pieces.specs.Tests.{both}
+use Rattle.pieces.specs.Entries.{pieceWithin}
 use Rattle.cones.specs.declared.Cone.{Cone}
 use Rattle.cones.specs.Entries.{coneWithin}
 use Rattle.integrals.specs.declared.Integrals.{Integrals}
@@ -30,36 +27,36 @@ use Rattle.checked.specs.Tests.{tests}
 use Rattle.revolutions.specs.Closings.{closeC, closeDue}
 
 -- A curve of the face's outline, as its loop runs it: an arc about the axis from one point to
--- another, or a piece of a development from one place to another, with its arc and its trace.
+-- another, or a piece of a development.
 pub data Path : Type 0 where
   arc : Arc → Vec3 → Vec3 → Path
-  piece : Development → Vec2 → Vec2 → PieceArc → PieceTrace → Path
+  piece : Rolled → Path
 
 -- ---- what is tried of a path, by number
 -- 1: its numbers pass the test of what is handed in
 unfoldable pub pathWithin : Path → Bool
 pathWithin (arc a u v) = endsWithin (a .center) (a .axis) (a .radius) u v
-pathWithin (piece dev from to arc' trace) = developmentWithin dev && (within2 from && (within2 to && (arcWithin arc' && followedWithin trace)))
+pathWithin (piece p) = pieceWithin p
 
 -- 2: its neutral radius, where it has one, is above 0
 unfoldable pub pathNeutral : Path → Bool
 pathNeutral (arc a u v) = true
-pathNeutral (piece dev from to arc' trace) = lt zero (dev .neutral)
+pathNeutral (piece p) = lt zero (p .dev .neutral)
 
 -- 3: it has no arc together with a trace
 unfoldable pub pathSingle : Path → Bool
 pathSingle (arc a u v) = true
-pathSingle (piece dev from to arc' trace) = not (both arc' trace)
+pathSingle (piece p) = not (both (p .arc) (p .trace))
 
 -- 7: a piece of a development lies on no cone whose slope is not 0; -0 is 0
 unfoldable pub liesOn : Cone → Path → Bool
 liesOn cone (arc a u v) = true
-liesOn cone (piece dev from to arc' trace) = eq (cone .slope) zero
+liesOn cone (piece p) = eq (cone .slope) zero
 
 -- the running sums after the path
 unfoldable pub pathC : Revolved → Path → Integrals → Checked Integrals
 pathC v (arc a from to) s = arcPathC v a from to s
-pathC v (piece dev from to arc' trace) s = piecePathC v dev from to arc' trace s
+pathC v (piece p) s = piecePathC v (p .dev) (p .from) (p .to) (p .arc) (p .trace) s
 
 -- ---- the Rust's `revolution`
 -- the sums of all paths: the surface is worked out before the first one, and where there is none

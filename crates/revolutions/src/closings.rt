@@ -11,6 +11,7 @@ use integrals::Added;
 use integrals::CheckedIntegrals;
 use integrals::Integrals;
 use integrals::Outcome;
+use integrals::SurfaceIntegrals;
 use integrals::settle;
 use vectors::formula::plus;
 
@@ -26,16 +27,18 @@ fn joined(acc: Integrals, convex: bool, sums: Integrals) -> CheckedIntegrals
     ensures refusal { λ r. ⌜ r .refusal ≡ closeC acc convex sums .refusal ⌝ }
     ensures value { λ r. ⌜ r .value ≡ closeC acc convex sums .value ⌝ }
 {
-    let moment = plus(acc.moment, sums.moment);
-    let vector = plus(acc.area_vector, sums.area_vector);
-    let s = Integrals {
-        six_v: acc.six_v + sums.six_v,
+    let a = acc.surface;
+    let b = sums.surface;
+    let moment = plus(a.moment, b.moment);
+    let vector = plus(a.area_vector, b.area_vector);
+    let s = SurfaceIntegrals {
+        six_v: a.six_v + b.six_v,
         moment: moment,
-        area: acc.area + sigma(convex) * sums.area,
+        area: a.area + sigma(convex) * b.area,
         area_vector: vector,
     };
     CheckedIntegrals {
-        value: s,
+        value: Integrals { surface: s },
         refusal: s.noted(0),
     }
 }

@@ -11,7 +11,7 @@ use Rattle.libm.specs.Circle.{sinC}
 use Rattle.arcs.specs.declared.Arc.{Arc}
 use Rattle.arcs.specs.Sweeps.{sweepC}
 use Rattle.arcs.specs.Spokes.{atC}
-use Rattle.integrals.specs.declared.Integrals.{Integrals}
+use Rattle.integrals.specs.declared.SurfaceIntegrals.{SurfaceIntegrals}
 use Rattle.segments.specs.declared.Slice.{Slice}
 use Rattle.segments.specs.Segments.{sliceC, centroidC, addedC}
 
@@ -35,6 +35,6 @@ pub centroid-refusal : (turned : Arc) (u : Vec3) (s : Slice) → centroidC turne
 unfolding centroidC
 centroid-refusal turned u s = simp all
 
-pub added-refusal : (acc : Integrals) (u n o : Vec3) (area : Float) (c : Vec3) → addedC acc u n o area c .refusal ≡ first (nine (addedC acc u n o area c .value .«six_v»)) (first (nines (addedC acc u n o area c .value .moment)) (nines (addedC acc u n o area c .value .«area_vector»)))
+pub added-refusal : (acc : SurfaceIntegrals) (u n o : Vec3) (area : Float) (c : Vec3) → addedC acc u n o area c .refusal ≡ first (nine (addedC acc u n o area c .value .«six_v»)) (first (nines (addedC acc u n o area c .value .moment)) (nines (addedC acc u n o area c .value .«area_vector»)))
 unfolding addedC
 added-refusal acc u n o area c = simp all

@@ -11,6 +11,7 @@ use Rattle.libm.specs.Circle.{sinC}
 use Rattle.arcs.specs.declared.Arc.{Arc}
 use Rattle.arcs.specs.Sweeps.{sweepC}
 use Rattle.arcs.specs.Spokes.{atC}
+use Rattle.integrals.specs.declared.SurfaceIntegrals.{SurfaceIntegrals}
 use Rattle.integrals.specs.declared.Integrals.{Integrals}
 use Rattle.integrals.specs.Sums.{side}
 use Rattle.segments.specs.declared.Slice.{Slice}
@@ -41,7 +42,7 @@ centroidC turned u s = do
 
 -- the sums with the slice added: of the cone from o over it six times the volume and the moment,
 -- and its area vector, but not its area
-unfoldable pub addedC : Integrals → Vec3 → Vec3 → Vec3 → Float → Vec3 → Checked Integrals
+unfoldable pub addedC : SurfaceIntegrals → Vec3 → Vec3 → Vec3 → Float → Vec3 → Checked SurfaceIntegrals
 addedC acc u n o area c = do
   d ← (vec u ⊟ vec o) ⊡ vec n
   six ← num two ⊗ num d ⊗ num area
@@ -54,7 +55,8 @@ addedC acc u n o area c = do
 unfoldable pub bulgeC : Integrals → Arc → Vec3 → Vec3 → Vec3 → Slice → Checked Integrals
 bulgeC acc turned u n o s = do
   c ← centroidC turned u s
-  addedC acc u n o (s .area) c
+  t ← addedC (acc .surface) u n o (s .area) c
+  given (record { surface = t })
 
 -- a slice whose area is a zero of either sign leaves all sums
 unfoldable pub segmentC : Integrals → Arc → Vec3 → Vec3 → Vec3 → Vec3 → Checked Integrals

@@ -8,7 +8,7 @@ use Rattle.vectors.specs.declared.Vec3.{Vec3}
 use Rattle.vectors.specs.Vectors.{vec, _⊞_, _⊟_, _⊠_, _⊡_, _⨯_}
 use Rattle.rounding.specs.Computations.{sqrtC}
 use Rattle.developments.specs.Rolls as rolls
-use Rattle.integrals.specs.declared.Integrals.{Integrals}
+use Rattle.integrals.specs.declared.SurfaceIntegrals.{SurfaceIntegrals}
 use Rattle.integrals.specs.Gauss.{stretchC}
 use Rattle.walls.specs.declared.Strip.{Strip}
 
@@ -25,7 +25,7 @@ stripC origin axis start neutral r0 r1 o = do
   given (record { axis = axis; start = start; neutral = neutral; base = base; hr = hr; mr = mr })
 
 -- the sums with the patch at x added, whose normal is n
-unfoldable pub addedC : Vec3 → Vec3 → Integrals → Checked Integrals
+unfoldable pub addedC : Vec3 → Vec3 → SurfaceIntegrals → Checked SurfaceIntegrals
 addedC x n s = do
   height ← vec x ⊡ vec n
   volume ← num (s .«six_v») ⊕ num two ⊗ num height
@@ -39,7 +39,7 @@ unfoldable pub normalC : Strip → Vec3 → (Float → Checked Vec3) → Float �
 normalC v radial moves h wt wr r = vec radial ⨯ moves r ⊠ (num quarter ⊗ num h ⊗ num wt ⊗ num (v .hr) ⊗ num wr)
 
 -- the sums after the node at r
-unfoldable pub patchC : Strip → Vec2 → Vec3 → (Float → Checked Vec3) → Float → Float → Float → Float → Integrals → Checked Integrals
+unfoldable pub patchC : Strip → Vec2 → Vec3 → (Float → Checked Vec3) → Float → Float → Float → Float → SurfaceIntegrals → Checked SurfaceIntegrals
 patchC v p radial moves h wt wr r s = do
   x ← vec (v .base) ⊞ vec (v .axis) ⊠ num (p .y) ⊞ vec radial ⊠ num r
   n ← normalC v radial moves h wt wr r
@@ -50,7 +50,7 @@ abbrev pub alongC : Strip → Vec2 → Vec2 → Float → Checked Vec3
 alongC v p d r = rolls.alongC (v .axis) (v .start) (v .neutral) p d r
 
 -- the sums after all radii where the piece is at p and moves by d
-unfoldable pub stationC : Strip → Vec2 → Vec2 → Float → Float → Integrals → Checked Integrals
+unfoldable pub stationC : Strip → Vec2 → Vec2 → Float → Float → SurfaceIntegrals → Checked SurfaceIntegrals
 stationC v p d h wt s = do
   radial ← rolls.radialC (v .axis) (v .start) (v .neutral) (p .x)
   stretchC (patchC v p radial (alongC v p d) h wt) (v .hr) (v .mr) s

@@ -5,16 +5,12 @@ ghost use mathlib.Core.Path.{_≡_};
 ghost use Rattle.integrals.specs.Sums.{addedDue, outcome, Lent};
 ghost use Rattle.walls.specs.Entries.{wallWithin, wallTests, wallDue};
 use checked::face_tests::tried;
-use developments::Development;
 use integrals::Added;
 use integrals::Integrals;
 use integrals::Outcome;
 use integrals::settle;
-use piece_curves::PieceArc;
-use piece_curves::PieceTrace;
+use pieces::Rolled;
 use pieces::parts::are_both;
-use pieces::parts::is_arc_within;
-use pieces::parts::is_trace_within;
 use vectors::Vec2;
 use vectors::Vec3;
 use vectors::is_within2;
@@ -23,44 +19,22 @@ use vectors::is_within3;
 pub mod formula;
 
 // Every number handed in but for the sums.
-fn is_wall_within(
-    dev: Development,
-    from: Vec2,
-    to: Vec2,
-    arc: PieceArc,
-    trace: PieceTrace,
-    r0: f64,
-    r1: f64,
-    o: Vec3,
-) -> bool
-    ensures { λ r. ⌜ r ≡ wallWithin dev from to arc trace r0 r1 o ⌝ }
+fn is_wall_within(p: Rolled, r0: f64, r1: f64, o: Vec3) -> bool
+    ensures { λ r. ⌜ r ≡ wallWithin p r0 r1 o ⌝ }
 {
-    dev.is_within_limit()
-        & (is_within2(from)
-            & (is_within2(to)
-                & (is_arc_within(arc)
-                    & (is_trace_within(trace)
-                        & (is_within2(Vec2 { x: r0, y: r1 }) & is_within3(o))))))
+    p.is_within_limit() & (is_within2(Vec2 { x: r0, y: r1 }) & is_within3(o))
 }
 
 // The number of the test that fails first; 0 is none.
-fn tried_wall(
-    acc: Integrals,
-    dev: Development,
-    from: Vec2,
-    to: Vec2,
-    arc: PieceArc,
-    trace: PieceTrace,
-    r0: f64,
-    r1: f64,
-    o: Vec3,
-) -> u8
-    ensures { λ r. ⌜ r ≡ wallTests dev from to arc trace r0 r1 o acc ⌝ }
+fn tried_wall(acc: Integrals, p: Rolled, r0: f64, r1: f64, o: Vec3) -> u8
+    ensures { λ r. ⌜ r ≡ wallTests p r0 r1 o acc ⌝ }
 {
+    let a = p.arc;
+    let t = p.trace;
     tried(
-        is_wall_within(dev, from, to, arc, trace, r0, r1, o),
-        0.0 < dev.neutral,
-        !are_both(arc, trace),
+        is_wall_within(p, r0, r1, o),
+        0.0 < p.dev.neutral,
+        !are_both(a, t),
         acc.is_finite(),
         true,
     )
@@ -68,63 +42,30 @@ fn tried_wall(
 
 // The sums of a body with those of the wall over a piece added, from r0 to r1 from the axis of its
 // development; volumes are measured from o.
-pub fn with_cut_wall(
-    acc: Integrals,
-    dev: Development,
-    from: Vec2,
-    to: Vec2,
-    arc: PieceArc,
-    trace: PieceTrace,
-    r0: f64,
-    r1: f64,
-    o: Vec3,
-) -> Added
-    ensures { λ r. ⌜ addedDue r ≡ wallDue dev from to arc trace r0 r1 o acc ⌝ }
+pub fn with_cut_wall(acc: Integrals, p: Rolled, r0: f64, r1: f64, o: Vec3) -> Added
+    ensures { λ r. ⌜ addedDue r ≡ wallDue p r0 r1 o acc ⌝ }
 {
-    let t = tried_wall(acc, dev, from, to, arc, trace, r0, r1, o);
+    let t = tried_wall(acc, p, r0, r1, o);
     if t == 0 {
-        settle(formula::over(dev, from, to, arc, trace, r0, r1, o, acc))
+        settle(formula::over(p, r0, r1, o, acc))
     } else {
         Added::Refused(t)
     }
 }
 
 // What is left of sums after the call, and the number that it answers.
-fn outcome(
-    acc: Integrals,
-    dev: Development,
-    from: Vec2,
-    to: Vec2,
-    arc: PieceArc,
-    trace: PieceTrace,
-    r0: f64,
-    r1: f64,
-    o: Vec3,
-) -> Outcome
-    ensures { λ r. ⌜ r ≡ outcome acc (wallDue dev from to arc trace r0 r1 o acc) ⌝ }
+fn outcome(acc: Integrals, p: Rolled, r0: f64, r1: f64, o: Vec3) -> Outcome
+    ensures { λ r. ⌜ r ≡ outcome acc (wallDue p r0 r1 o acc) ⌝ }
 {
-    integrals::after(
-        acc,
-        with_cut_wall(acc, dev, from, to, arc, trace, r0, r1, o),
-    )
+    integrals::after(acc, with_cut_wall(acc, p, r0, r1, o))
 }
 
 // The lent sums with those of the wall added: 0 where they are, else the refusal's number, and the
 // lent sums are as they were.
-pub fn cut_wall(
-    acc: &mut Integrals,
-    dev: Development,
-    from: Vec2,
-    to: Vec2,
-    arc: PieceArc,
-    trace: PieceTrace,
-    r0: f64,
-    r1: f64,
-    o: Vec3,
-) -> u8
-    ensures { λ r. ⌜ Lent (wallDue dev from to arc trace r0 r1 o) (now (acc .entry)) r (now (acc .exit)) ⌝ }
+pub fn cut_wall(acc: &mut Integrals, p: Rolled, r0: f64, r1: f64, o: Vec3) -> u8
+    ensures { λ r. ⌜ Lent (wallDue p r0 r1 o) (now (acc .entry)) r (now (acc .exit)) ⌝ }
 {
-    let end = outcome(*acc, dev, from, to, arc, trace, r0, r1, o);
+    let end = outcome(*acc, p, r0, r1, o);
     *acc = end.sums;
     end.number
 }

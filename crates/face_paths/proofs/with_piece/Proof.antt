@@ -1,5 +1,5 @@
 use borrow.Author.Needs.{needs}
-use Rattle.checked.specs.Laws.{first-assoc}
+use Rattle.checked.specs.Laws.{first-assoc, first-zero}
 use Rattle.face_paths.specs.Paths.{trackAt, piecePathC, withPieceC}
 use Rattle.face_paths.proofs.with_piece.Statement.{statement}
 use Rattle.face_paths.proofs.with_piece.Tie as tie
@@ -28,12 +28,12 @@ along-requires c κs = search needs
 returns : tie.Need-returns
 unfolding withPieceC piecePathC trackAt
 returns c =
-    let a = c .along .ensures in
-    let n = c .before .before .before .quadrature-pieces .ensures in
-    let d = c .before .before .before .before .before .drift-of .ensures in
-    let r = c .before .before .before .before .before .before .run-of .ensures in
-    let w = c .before .before .before .before .before .before .before .before .revolve .ensures in
-    (simp (a .0, c .before .earlier2 .ensures, c .before .before .earlier .ensures, n .0, n .1, d .0, d .1, r .0, r .1, w .0, w .1, first-assoc), simp (a .1, n .1, d .1, r .0, r .1, w .1))
+    let a = c .before .along .ensures in
+    let n = c .before .before .before .before .before .quadrature-pieces .ensures in
+    let d = c .before .before .before .before .before .before .before .drift-of .ensures in
+    let r = c .before .before .before .before .before .before .before .before .run-of .ensures in
+    let w = c .before .before .before .before .before .before .before .before .before .before .revolve .ensures in
+    (simp (a .0, c .before .before .earlier2 .ensures, c .before .before .before .earlier .ensures, n .0, n .1, d .0, d .1, r .0, r .1, w .0, w .1, first-zero, first-assoc), simp (a .1, n .1, d .1, r .0, r .1, w .1))
 
 pub with-piece-spec : {M : Type 1} → statement M
 with-piece-spec =

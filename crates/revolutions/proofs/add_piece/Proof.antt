@@ -17,7 +17,7 @@ settle-requires c κs = search needs
 
 returns : tie.Need-returns
 unfolding addDue
-returns c = simp (c .settle .ensures, c .before .with-piece .ensures .0, c .before .with-piece .ensures .1, c .before .before .if1 .taken, passing-none, ← c .before .before .before .tried-with .ensures, piece-is)
+returns c = simp (c .settle .ensures, c .before .with-piece .ensures .0, c .before .with-piece .ensures .1, c .before .before .before .if1 .taken, passing-none, ← c .before .before .before .before .tried-with .ensures, piece-is)
 
 returns-2 : tie.Need-returns-2
 unfolding addDue

@@ -9,23 +9,28 @@ use crate::station;
 use crate::strip_of;
 use checked::earlier;
 use checked::note;
-use developments::Development;
 use integrals::CheckedIntegrals;
+use integrals::CheckedSurfaceIntegrals;
 use integrals::Integrals;
 use integrals::WEIGHTS;
 use integrals::lies;
 use integrals::lies_noted;
-use piece_curves::PieceArc;
-use piece_curves::PieceTrace;
 use piece_curves::Run;
 use piece_curves::points::at;
-use piece_curves::run_of;
 use piece_lengths::counts::quadrature_pieces;
-use vectors::Vec2;
+use pieces::Rolled;
+use pieces::formula::run;
 use vectors::Vec3;
 
 // The sums after all radii at t.
-fn station_at(v: Strip, r: Run, h: f64, wt: f64, t: f64, s: CheckedIntegrals) -> CheckedIntegrals
+fn station_at(
+    v: Strip,
+    r: Run,
+    h: f64,
+    wt: f64,
+    t: f64,
+    s: CheckedSurfaceIntegrals,
+) -> CheckedSurfaceIntegrals
     ensures refusal { λ a. ⌜ a .refusal ≡ first (s .refusal) (stationAtC v r h wt t (s .value) .refusal) ⌝ }
     ensures value { λ a. ⌜ a .value ≡ stationAtC v r h wt t (s .value) .value ⌝ }
 {
@@ -37,7 +42,7 @@ fn station_at(v: Strip, r: Run, h: f64, wt: f64, t: f64, s: CheckedIntegrals) ->
         q.value.d,
         h,
         wt,
-        CheckedIntegrals {
+        CheckedSurfaceIntegrals {
             value: sums,
             refusal: earlier(s.refusal, q.refusal),
         },
@@ -45,13 +50,13 @@ fn station_at(v: Strip, r: Run, h: f64, wt: f64, t: f64, s: CheckedIntegrals) ->
 }
 
 // The stretch i, of length h.
-fn stretch(v: Strip, r: Run, h: f64, i: u16, s: CheckedIntegrals) -> CheckedIntegrals
+fn stretch(v: Strip, r: Run, h: f64, i: u16, s: CheckedSurfaceIntegrals) -> CheckedSurfaceIntegrals
     ensures refusal { λ a. ⌜ a .refusal ≡ first (s .refusal) (stretchAtC (stationAtC v r) h i (s .value) .refusal) ⌝ }
     ensures value { λ a. ⌜ a .value ≡ stretchAtC (stationAtC v r) h i (s .value) .value ⌝ }
 {
     let mid = h * ((i as f64) + 0.5);
     let start = s.value;
-    let mut a = CheckedIntegrals {
+    let mut a = CheckedSurfaceIntegrals {
         value: start,
         refusal: note(s.refusal, mid),
     };
@@ -65,7 +70,7 @@ fn stretch(v: Strip, r: Run, h: f64, i: u16, s: CheckedIntegrals) -> CheckedInte
             h,
             WEIGHTS[j / 2],
             lies(h, mid, j),
-            CheckedIntegrals {
+            CheckedSurfaceIntegrals {
                 value: sums,
                 refusal: n,
             },
@@ -76,13 +81,13 @@ fn stretch(v: Strip, r: Run, h: f64, i: u16, s: CheckedIntegrals) -> CheckedInte
 }
 
 // All n stretches of the wall.
-fn along(v: Strip, r: Run, n: u16, s: CheckedIntegrals) -> CheckedIntegrals
+fn along(v: Strip, r: Run, n: u16, s: CheckedSurfaceIntegrals) -> CheckedSurfaceIntegrals
     ensures refusal { λ a. ⌜ a .refusal ≡ first (s .refusal) (alongC (stationAtC v r) n (s .value) .refusal) ⌝ }
     ensures value { λ a. ⌜ a .value ≡ alongC (stationAtC v r) n (s .value) .value ⌝ }
 {
     let h = 1.0 / (n as f64);
     let start = s.value;
-    let mut a = CheckedIntegrals {
+    let mut a = CheckedSurfaceIntegrals {
         value: start,
         refusal: note(s.refusal, h),
     };
@@ -95,32 +100,29 @@ fn along(v: Strip, r: Run, n: u16, s: CheckedIntegrals) -> CheckedIntegrals
 }
 
 // The sums of a body with those of the wall over a piece added, from r0 to r1 from the axis.
-pub fn over(
-    dev: Development,
-    from: Vec2,
-    to: Vec2,
-    arc: PieceArc,
-    trace: PieceTrace,
-    r0: f64,
-    r1: f64,
-    o: Vec3,
-    s: Integrals,
-) -> CheckedIntegrals
-    ensures refusal { λ a. ⌜ a .refusal ≡ wallC dev from to arc trace r0 r1 o s .refusal ⌝ }
-    ensures value { λ a. ⌜ a .value ≡ wallC dev from to arc trace r0 r1 o s .value ⌝ }
+pub fn over(p: Rolled, r0: f64, r1: f64, o: Vec3, s: Integrals) -> CheckedIntegrals
+    ensures refusal { λ a. ⌜ a .refusal ≡ wallC p r0 r1 o s .refusal ⌝ }
+    ensures value { λ a. ⌜ a .value ≡ wallC p r0 r1 o s .value ⌝ }
 {
-    let x = run_of(from, to, dev.neutral, arc, trace);
+    let x = run(p);
     let r = x.value;
     let n = quadrature_pieces(r);
-    let y = strip_of(dev.origin, dev.axis, dev.start, dev.neutral, r0, r1, o);
+    let d = p.dev;
+    let y = strip_of(d.origin, d.axis, d.start, d.neutral, r0, r1, o);
     let v = y.value;
-    along(
+    let before = s.surface;
+    let a = along(
         v,
         r,
         n.value,
-        CheckedIntegrals {
-            value: s,
+        CheckedSurfaceIntegrals {
+            value: before,
             refusal: earlier(earlier(x.refusal, n.refusal), y.refusal),
         },
-    )
+    );
+    let after = a.value;
+    CheckedIntegrals {
+        value: Integrals { surface: after },
+        refusal: a.refusal,
+    }
 }

@@ -20,7 +20,7 @@ noted-requires c κs = search needs
 
 returns : tie.Need-returns
 unfolding closeC
-returns c = ((simp (c .noted .ensures, c .before .before .before .sigma .ensures, c .before .before .before .before .before .before .plus2 .ensures, c .before .before .before .before .before .before .before .plus .ensures, zero-first)) ∙ sym (close-refusal (c .before .before .before .before .before .before .before .before .args .acc) (c .before .before .before .before .before .before .before .before .args .convex) (c .before .before .before .before .before .before .before .before .args .sums)), simp (c .before .before .before .sigma .ensures, c .before .before .before .before .before .before .plus2 .ensures, c .before .before .before .before .before .before .before .plus .ensures))
+returns c = ((simp (c .noted .ensures, c .before .before .before .sigma .ensures, c .before .before .before .before .before .before .plus2 .ensures, c .before .before .before .before .before .before .before .plus .ensures, zero-first)) ∙ sym (close-refusal (c .before .before .before .before .before .before .before .before .before .before .args .acc) (c .before .before .before .before .before .before .before .before .before .before .args .convex) (c .before .before .before .before .before .before .before .before .before .before .args .sums)), simp (c .before .before .before .sigma .ensures, c .before .before .before .before .before .before .plus2 .ensures, c .before .before .before .before .before .before .before .plus .ensures))
 
 pub joined-spec : {M : Type 1} → statement M
 joined-spec =

@@ -1,11 +1,11 @@
 use borrow.Author.Needs.{needs}
-use Rattle.checked.specs.Laws.{first-assoc}
+use Rattle.checked.specs.Laws.{first-assoc, first-zero}
 use Rattle.walls.specs.CutWalls.{wallC}
 use Rattle.walls.proofs.cut_walls.formula.over.Statement.{statement}
 use Rattle.walls.proofs.cut_walls.formula.over.Tie as tie
 
-run-of-requires : tie.Need-run-of-requires
-run-of-requires c κs = search needs
+run-requires : tie.Need-run-requires
+run-requires c κs = search needs
 
 quadrature-pieces-requires : tie.Need-quadrature-pieces-requires
 quadrature-pieces-requires c κs = search needs
@@ -25,17 +25,17 @@ along-requires c κs = search needs
 returns : tie.Need-returns
 unfolding wallC
 returns c =
-    let a = c .along .ensures in
-    let v = c .before .before .before .before .strip-of .ensures in
-    let n = c .before .before .before .before .before .quadrature-pieces .ensures in
-    let r = c .before .before .before .before .before .before .before .run-of .ensures in
-    (simp (a .0, c .before .earlier2 .ensures, c .before .before .earlier .ensures, v .0, v .1, n .0, n .1, r .0, r .1, first-assoc), simp (a .1, v .1, n .1, r .1))
+    let a = c .before .along .ensures in
+    let v = c .before .before .before .before .before .before .strip-of .ensures in
+    let n = c .before .before .before .before .before .before .before .before .quadrature-pieces .ensures in
+    let r = c .before .before .before .before .before .before .before .before .before .before .run .ensures in
+    (simp (a .0, c .before .before .earlier2 .ensures, c .before .before .before .earlier .ensures, v .0, v .1, n .0, n .1, r .0, r .1, first-zero, first-assoc), simp (a .1, v .1, n .1, r .1))
 
 pub over-spec : {M : Type 1} → statement M
 over-spec =
     tie.close
     (tie.spec
-    run-of-requires
+    run-requires
     quadrature-pieces-requires
     strip-of-requires
     earlier-requires
