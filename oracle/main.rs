@@ -2,7 +2,7 @@
 //!
 //!     driver compare [--count N] [--seed S] [--only NAME]   table of comparisons, status 1 on a difference
 //!     driver second [--count N] [--seed S] [--only NAME]    the second reading beside the Rust, with no port
-//!     driver bench [--only NAME]                            nanoseconds of a call on both sides
+//!     driver bench [--only NAME]                            nanoseconds of a Rust program's call on both sides
 //!     driver hash [--count N] [--seed S]                    a sum over the Rust's answers, for another build
 //!     driver edgebox                                        what `edgebox` prints, by the Rust
 //!     driver fuzz --program FILE [--count N] [--seed S]     edge files through that program, status 1 on a difference
@@ -28,6 +28,7 @@ use profile_arc::ProfileArc;
 mod answers;
 mod arcs;
 mod bench;
+mod callers;
 mod classes;
 mod compare;
 mod curves;

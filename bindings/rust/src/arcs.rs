@@ -3,7 +3,7 @@
 #[cfg(feature = "alloc")]
 use alloc::vec::Vec;
 
-use crate::ffi::{self, part};
+use crate::ffi::{self, laid_out};
 use crate::{Bounds, Refusal, Vec2, Vec3};
 
 /// An arc of a flat profile about `center`.
@@ -27,14 +27,18 @@ impl ProfileArc {
     /// assert_eq!(clockwise.turn(p, p)?, -std::f64::consts::TAU);
     /// # Ok::<(), Refusal>(())
     /// ```
+    #[inline]
     pub fn turn(&self, a: Vec2, b: Vec2) -> Result<f64, Refusal> {
-        let [center, a, b] = [self.center, a, b].map(Vec2::to_array);
-        ffi::number(|out| ffi::jr_profile_arc_turn(&center, self.ccw, &a, &b, out))
+        ffi::number(|out| {
+            let center = self.center.numbers();
+            ffi::jr_profile_arc_turn(center, self.ccw, a.numbers(), b.numbers(), out)
+        })
     }
 }
 
 /// How many chords a full turn of a circle takes to stay within `chord` of it: a whole number from
 /// 12 to 64. Where the chord is not below the radius it is 12.
+#[inline]
 pub fn per_turn(radius: f64, chord: f64) -> Result<f64, Refusal> {
     ffi::number(|out| ffi::jr_per_turn(radius, chord, out))
 }
@@ -64,6 +68,7 @@ pub const ARC_ROW: usize = 189;
 /// # Ok::<(), Refusal>(())
 /// ```
 #[derive(Clone, Copy, Debug, PartialEq)]
+#[repr(C)]
 pub struct Arc {
     /// The centre of its circle.
     pub center: Vec3,
@@ -73,22 +78,26 @@ pub struct Arc {
     pub radius: f64,
 }
 
+laid_out!(Arc is 7: center at 0, axis at 3, radius at 6);
+
 impl Arc {
     /// The same circle turned about the other way, so that an arc from `a` to `b` is one from `b`
     /// to `a`.
+    #[inline]
     pub fn reversed(&self) -> Result<Self, Refusal> {
-        ffi::numbers(|out| ffi::jr_arc_reversed(&self.numbers(), out)).map(|a| Self::of(&a))
+        ffi::numbers(|out| ffi::jr_arc_reversed(self.numbers(), out)).map(Self::of)
     }
 
     /// The angle from `from` to `to`, above 0 and at most 2π. One point twice is a full circle.
+    #[inline]
     pub fn sweep(&self, from: Vec3, to: Vec3) -> Result<f64, Refusal> {
-        let [from, to] = [from, to].map(Vec3::to_array);
-        ffi::number(|out| ffi::jr_arc_sweep(&self.numbers(), &from, &to, out))
+        ffi::number(|out| ffi::jr_arc_sweep(self.numbers(), from.numbers(), to.numbers(), out))
     }
 
     /// The point at the angle `t` from `from`. A `from` on the axis is refused.
+    #[inline]
     pub fn at(&self, from: Vec3, t: f64) -> Result<Vec3, Refusal> {
-        ffi::numbers(|out| ffi::jr_arc_at(&self.numbers(), &from.to_array(), t, out)).map(Vec3::from)
+        ffi::numbers(|out| ffi::jr_arc_at(self.numbers(), from.numbers(), t, out)).map(Vec3::of)
     }
 
     /// Writes points between `from` and `to`, for chords that stay within `chord` of the arc, to
@@ -106,6 +115,7 @@ impl Arc {
     /// assert_eq!(arc.inner_points(from, to, 0.0, &mut []), Err(Refusal::RowTooShort));
     /// # Ok::<(), Refusal>(())
     /// ```
+    #[inline]
     pub fn inner_points<'row>(
         &self,
         from: Vec3,
@@ -113,17 +123,18 @@ impl Arc {
         chord: f64,
         row: &'row mut [f64],
     ) -> Result<&'row mut [f64], Refusal> {
-        let (arc, [from, to]) = (self.numbers(), [from, to].map(Vec3::to_array));
+        let (arc, from, to) = (self.numbers(), from.numbers(), to.numbers());
         let written = ffi::count(|written| {
             let (start, length) = (row.as_mut_ptr(), row.len());
             // SAFETY: `row` is borrowed for this call alone, and these are its start and length.
-            unsafe { ffi::jr_arc_inner_points(&arc, &from, &to, chord, start, length, written) }
+            unsafe { ffi::jr_arc_inner_points(arc, from, to, chord, start, length, written) }
         })?;
         Ok(&mut row[..written])
     }
 
     /// The points of [`Arc::inner_points`] as a `Vec`.
     #[cfg(feature = "alloc")]
+    #[inline]
     pub fn inner_points_vec(&self, from: Vec3, to: Vec3, chord: f64) -> Result<Vec<Vec3>, Refusal> {
         let mut row = [0.0; ARC_ROW];
         self.inner_points(from, to, chord, &mut row).map(|row| points(row))
@@ -131,25 +142,16 @@ impl Arc {
 
     /// Widens the box to hold the arc from `from` to `to`: both ends, and what lies on the arc of
     /// the six points where its circle is extreme along a coordinate.
+    #[inline]
     pub fn extend_bounds(&self, from: Vec3, to: Vec3, bounds: &mut Bounds) -> Result<(), Refusal> {
-        let (arc, [from, to]) = (self.numbers(), [from, to].map(Vec3::to_array));
-        bounds.lend(|corners| ffi::jr_arc_extend_bounds(&arc, &from, &to, corners))
-    }
-
-    pub(crate) fn numbers(&self) -> [f64; 7] {
-        let ([cx, cy, cz], [ax, ay, az]) = (self.center.to_array(), self.axis.to_array());
-        [cx, cy, cz, ax, ay, az, self.radius]
-    }
-
-    /// The arc of the first seven numbers.
-    pub(crate) fn of(numbers: &[f64]) -> Self {
-        let [center, axis] = [0, 3].map(|k| part(numbers, k).into());
-        Self { center, axis, radius: numbers[6] }
+        let (arc, from, to) = (self.numbers(), from.numbers(), to.numbers());
+        ffi::settle(ffi::jr_arc_extend_bounds(arc, from, to, bounds.numbers_mut()))
     }
 }
 
 /// The points of a row.
 #[cfg(feature = "alloc")]
+#[inline]
 pub(crate) fn points(row: &[f64]) -> Vec<Vec3> {
     row.chunks_exact(3).map(|p| Vec3::new(p[0], p[1], p[2])).collect()
 }

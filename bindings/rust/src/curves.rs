@@ -6,7 +6,7 @@ use alloc::{vec, vec::Vec};
 use crate::arcs::Arc;
 #[cfg(feature = "alloc")]
 use crate::arcs::{ARC_ROW, points};
-use crate::ffi::{self, put};
+use crate::ffi::{self, part};
 use crate::{Bounds, Refusal, Rigid, Rolled, Vec3};
 
 /// The curve of an edge: an arc, or a piece of a development at a distance from its axis.
@@ -48,43 +48,45 @@ pub enum Curve {
     },
 }
 
-/// A curve as the library takes it.
-struct Tagged {
-    numbers: [f64; 27],
-    kind: u32,
-    arc: u32,
-    trace: u32,
-}
-
 const ARC: u32 = 0;
 const PIECE: u32 = 1;
 
 impl Curve {
     /// The same curve run the other way.
+    #[inline]
     pub fn reversed(&self) -> Result<Self, Refusal> {
-        let (c, mut tags) = (self.tagged(), [0; 2]);
+        let mut tags = [0; 2];
         ffi::numbers(|out| {
-            ffi::jr_curve_reversed(&c.numbers, c.kind, c.arc, c.trace, out, &mut tags)
+            self.lend(|c, kind, arc, trace| {
+                ffi::jr_curve_reversed(c, kind, arc, trace, out, &mut tags)
+            })
         })
-        .map(|numbers| Self::of(&numbers, c.kind, tags))
+        .map(|numbers| self.alike(&numbers, tags))
     }
 
     /// The curve moved by `m`.
+    #[inline]
     pub fn moved(&self, m: &Rigid) -> Result<Self, Refusal> {
-        let (c, m) = (self.tagged(), m.numbers());
-        ffi::numbers(|out| ffi::jr_curve_moved(&c.numbers, c.kind, c.arc, c.trace, &m, out))
-            .map(|numbers| Self::of(&numbers, c.kind, [c.arc, c.trace]))
+        let mut tags = [0; 2];
+        ffi::numbers(|out| {
+            self.lend(|c, kind, arc, trace| {
+                tags = [arc, trace];
+                ffi::jr_curve_moved(c, kind, arc, trace, m.numbers(), out)
+            })
+        })
+        .map(|numbers| self.alike(&numbers, tags))
     }
 
     /// The arc, where the curve is one. Numbers of either are tried.
+    #[inline]
     pub fn arc(&self) -> Result<Option<&Arc>, Refusal> {
-        let c = self.tagged();
-        let found =
-            ffi::some_numbers(|out| ffi::jr_curve_arc(&c.numbers, c.kind, c.arc, c.trace, out))?;
+        let found = ffi::some_numbers(|out| {
+            self.lend(|c, kind, arc, trace| ffi::jr_curve_arc(c, kind, arc, trace, out))
+        })?;
         // The library hands the arc on as it is, so the caller gets a view of his own.
         Ok(match (self, found) {
             (Self::Arc(a), Some(numbers)) => {
-                debug_assert_eq!(Arc::of(&numbers), *a);
+                debug_assert_eq!(Arc::of(numbers), *a);
                 Some(a)
             }
             _ => None,
@@ -95,6 +97,7 @@ impl Curve {
     /// the start of `row`, three numbers each, and gives the part written. The rest of the row
     /// keeps its content. A piece has ends of its own: there `from` and `to` are tried and not
     /// used.
+    #[inline]
     pub fn inner_points<'row>(
         &self,
         from: Vec3,
@@ -102,22 +105,22 @@ impl Curve {
         chord: f64,
         row: &'row mut [f64],
     ) -> Result<&'row mut [f64], Refusal> {
-        let (c, [from, to]) = (self.tagged(), [from, to].map(Vec3::to_array));
-        let (kind, arc, trace) = (c.kind, c.arc, c.trace);
+        let (from, to) = (from.numbers(), to.numbers());
         let written = ffi::count(|written| {
             let (start, length) = (row.as_mut_ptr(), row.len());
             // SAFETY: `row` is borrowed for this call alone, and these are its start and length.
-            unsafe {
+            self.lend(|c, kind, arc, trace| unsafe {
                 ffi::jr_curve_inner_points(
-                    &c.numbers, kind, arc, trace, &from, &to, chord, start, length, written,
+                    c, kind, arc, trace, from, to, chord, start, length, written,
                 )
-            }
+            })
         })?;
         Ok(&mut row[..written])
     }
 
     /// The points of [`Curve::inner_points`] as a `Vec`.
     #[cfg(feature = "alloc")]
+    #[inline]
     pub fn inner_points_vec(&self, from: Vec3, to: Vec3, chord: f64) -> Result<Vec<Vec3>, Refusal> {
         let mut row = [0.0; ARC_ROW];
         match (self.inner_points(from, to, chord, &mut row), self) {
@@ -133,33 +136,40 @@ impl Curve {
     /// Widens the box to hold the curve from `from` to `to`. A piece has ends of its own: there
     /// `from` and `to` are tried and not used, and the box is widened by the two arcs about the
     /// axis at the ends of the piece's own box along `v`.
+    #[inline]
     pub fn extend_bounds(&self, from: Vec3, to: Vec3, bounds: &mut Bounds) -> Result<(), Refusal> {
-        let (c, [from, to]) = (self.tagged(), [from, to].map(Vec3::to_array));
-        bounds.lend(|corners| {
-            ffi::jr_curve_extend_bounds(&c.numbers, c.kind, c.arc, c.trace, &from, &to, corners)
-        })
+        let (from, to, corners) = (from.numbers(), to.numbers(), bounds.numbers_mut());
+        ffi::settle(self.lend(|c, kind, arc, trace| {
+            ffi::jr_curve_extend_bounds(c, kind, arc, trace, from, to, corners)
+        }))
     }
 
-    fn tagged(&self) -> Tagged {
+    /// Hands the curve on as the library takes it: its numbers, the tag of its kind, and those of its
+    /// piece's arc and trace.
+    #[inline]
+    fn lend(&self, call: impl FnOnce(&[f64; 27], u32, u32, u32) -> u32) -> u32 {
         let mut numbers = [0.0; 27];
         match self {
             Self::Arc(a) => {
-                put(&mut numbers, 0, &a.numbers());
-                Tagged { numbers, kind: ARC, arc: 0, trace: 0 }
+                numbers[..7].copy_from_slice(a.numbers());
+                call(&numbers, ARC, 0, 0)
             }
             Self::Rolled { piece, radius } => {
-                let w = piece.tagged();
-                put(&mut numbers, 0, &w.numbers);
                 numbers[26] = *radius;
-                Tagged { numbers, kind: PIECE, arc: w.arc, trace: w.trace }
+                let [arc, trace] = piece.put(numbers.first_chunk_mut().expect("26 numbers of 27"));
+                call(&numbers, PIECE, arc, trace)
             }
         }
     }
 
-    fn of(numbers: &[f64; 27], kind: u32, tags: [u32; 2]) -> Self {
-        match kind {
-            ARC => Self::Arc(Arc::of(numbers)),
-            _ => Self::Rolled { piece: Rolled::of(numbers, tags), radius: numbers[26] },
+    /// The curve of the same kind of these numbers and a piece's tags.
+    #[inline]
+    fn alike(&self, numbers: &[f64; 27], tags: [u32; 2]) -> Self {
+        match self {
+            Self::Arc(_) => Self::Arc(Arc::of(part(numbers, 0))),
+            Self::Rolled { .. } => {
+                Self::Rolled { piece: Rolled::of(numbers, tags), radius: numbers[26] }
+            }
         }
     }
 }

@@ -1,12 +1,13 @@
 //! Rolled sheet that lies flat, and the curves in it that a formula gives.
 
-use crate::ffi::{self, part, put};
+use crate::ffi::{self, laid_out, part};
 use crate::{Refusal, Rigid, Vec2, Vec3};
 
 /// The development of a cylinder: the coordinates in which a rolled sheet lies flat. `u` is the
 /// length along the neutral layer, `v` the one along the axis; at the angle `u / neutral` from
 /// `start`, counterclockwise about `axis`, lies what has the coordinate `u`.
 #[derive(Clone, Copy, Debug, PartialEq)]
+#[repr(C)]
 pub struct Development {
     /// The point of the axis where `v` is 0.
     pub origin: Vec3,
@@ -18,58 +19,50 @@ pub struct Development {
     pub neutral: f64,
 }
 
+laid_out!(Development is 10: origin at 0, axis at 3, start at 6, neutral at 9);
+
 impl Development {
     /// The direction away from the axis at `u`, of length 1.
+    #[inline]
     pub fn radial(&self, u: f64) -> Result<Vec3, Refusal> {
-        ffi::numbers(|out| ffi::jr_development_radial(&self.numbers(), u, out)).map(Vec3::from)
+        ffi::numbers(|out| ffi::jr_development_radial(self.numbers(), u, out)).map(Vec3::of)
     }
 
     /// The point in space of the coordinates `p`, at `r` from the axis.
+    #[inline]
     pub fn point(&self, p: Vec2, r: f64) -> Result<Vec3, Refusal> {
-        let (dev, p) = (self.numbers(), p.to_array());
-        ffi::numbers(|out| ffi::jr_development_point(&dev, &p, r, out)).map(Vec3::from)
+        ffi::numbers(|out| ffi::jr_development_point(self.numbers(), p.numbers(), r, out))
+            .map(Vec3::of)
     }
 
     /// How the point in space moves as the coordinates move from `p` along `d`, at `r` from the
     /// axis.
+    #[inline]
     pub fn along(&self, p: Vec2, d: Vec2, r: f64) -> Result<Vec3, Refusal> {
-        let (dev, [p, d]) = (self.numbers(), [p, d].map(Vec2::to_array));
-        ffi::numbers(|out| ffi::jr_development_along(&dev, &p, &d, r, out)).map(Vec3::from)
+        let (p, d) = (p.numbers(), d.numbers());
+        ffi::numbers(|out| ffi::jr_development_along(self.numbers(), p, d, r, out)).map(Vec3::of)
     }
 
     /// The coordinates of a point in space, `u` within half a turn of `near`, and its distance from
     /// the axis.
+    #[inline]
     pub fn unroll(&self, q: Vec3, near: f64) -> Result<(Vec2, f64), Refusal> {
-        let (dev, q) = (self.numbers(), q.to_array());
-        ffi::numbers(|out| ffi::jr_development_unroll(&dev, &q, near, out))
+        ffi::numbers(|out| ffi::jr_development_unroll(self.numbers(), q.numbers(), near, out))
             .map(|[u, v, r]| (Vec2::new(u, v), r))
     }
 
     /// The development moved by `m`.
+    #[inline]
     pub fn moved(&self, m: &Rigid) -> Result<Self, Refusal> {
-        let (dev, m) = (self.numbers(), m.numbers());
-        ffi::numbers(|out| ffi::jr_development_moved(&dev, &m, out)).map(|dev| Self::of(&dev))
-    }
-
-    pub(crate) fn numbers(&self) -> [f64; 10] {
-        let mut numbers = [0.0; 10];
-        for (k, v) in [self.origin, self.axis, self.start].into_iter().enumerate() {
-            put(&mut numbers, 3 * k, &v.to_array());
-        }
-        numbers[9] = self.neutral;
-        numbers
-    }
-
-    /// The development of the first ten numbers.
-    pub(crate) fn of(numbers: &[f64]) -> Self {
-        let [origin, axis, start] = [0, 3, 6].map(|k| part(numbers, k).into());
-        Self { origin, axis, start, neutral: numbers[9] }
+        ffi::numbers(|out| ffi::jr_development_moved(self.numbers(), m.numbers(), out))
+            .map(Self::of)
     }
 }
 
 /// Where a plane cuts the neutral layer, in its development:
 /// `v = a + b·cos(u / n) + c·sin(u / n)`, `n` the neutral radius.
 #[derive(Clone, Copy, Debug, PartialEq)]
+#[repr(C)]
 pub struct Wave {
     /// The mean of `v`.
     pub a: f64,
@@ -79,19 +72,19 @@ pub struct Wave {
     pub c: f64,
 }
 
+laid_out!(Wave is 3: a at 0, b at 1, c at 2);
+
 impl Wave {
     /// `v` at `u`, and its first and second derivative in `u`, for the neutral radius `n`.
+    #[inline]
     pub fn at(&self, u: f64, n: f64) -> Result<[f64; 3], Refusal> {
-        ffi::numbers(|out| ffi::jr_wave_at(&self.numbers(), u, n, out))
+        ffi::numbers(|out| ffi::jr_wave_at(self.numbers(), u, n, out))
     }
 
     /// The least and the greatest `v` from `u0` to `u1`, for the neutral radius `n`.
+    #[inline]
     pub fn range(&self, u0: f64, u1: f64, n: f64) -> Result<[f64; 2], Refusal> {
-        ffi::numbers(|out| ffi::jr_wave_range(&self.numbers(), u0, u1, n, out))
-    }
-
-    fn numbers(&self) -> [f64; 3] {
-        [self.a, self.b, self.c]
+        ffi::numbers(|out| ffi::jr_wave_range(self.numbers(), u0, u1, n, out))
     }
 }
 
@@ -116,6 +109,7 @@ impl Wave {
 /// assert_eq!(main.point(quarter, 12.0), Err(Refusal::NotFinite));
 /// ```
 #[derive(Clone, Copy, Debug, PartialEq)]
+#[repr(C)]
 pub struct Meet {
     /// A point of the other cylinder's axis.
     pub origin: Vec3,
@@ -130,22 +124,26 @@ pub struct Meet {
     pub turn: Option<[f64; 2]>,
 }
 
+laid_out!(Meet begins 8: origin at 0, axis at 3, radius at 6, own at 7);
+
 impl Meet {
     /// The point that the generatrix at the angle `phi` meets, and its first and second derivative
     /// in `phi`, for the neutral radius `n`.
+    #[inline]
     pub fn point(&self, phi: f64, n: f64) -> Result<[Vec3; 3], Refusal> {
-        let (meet, turn) = (self.numbers(), self.turn.is_some() as u32);
+        let (mut meet, turn) = ([0.0; 10], self.turn.is_some() as u32);
+        self.put(&mut meet);
         ffi::numbers::<9>(|out| ffi::jr_meet_point(&meet, turn, phi, n, out))
-            .map(|p| [0, 3, 6].map(|k| part(&p, k).into()))
+            .map(|p| [0, 3, 6].map(|k| Vec3::of(part(&p, k))))
     }
 
-    fn numbers(&self) -> [f64; 10] {
-        let mut numbers = [0.0; 10];
-        put(&mut numbers, 0, &self.origin.to_array());
-        put(&mut numbers, 3, &self.axis.to_array());
-        put(&mut numbers, 6, &[self.radius, self.own]);
-        put(&mut numbers, 8, &self.turn.unwrap_or_default());
-        numbers
+    /// Puts the meet's numbers into an array of zeros.
+    #[inline]
+    fn put(&self, numbers: &mut [f64; 10]) {
+        numbers[..8].copy_from_slice(self.numbers());
+        if let Some(angles) = &self.turn {
+            numbers[8..].copy_from_slice(angles);
+        }
     }
 }
 
@@ -161,30 +159,36 @@ pub enum Trace {
 impl Trace {
     /// `v` at `u` for the neutral radius `n`; none for a meet with `turn`, which has no `v` of
     /// every `u`.
+    #[inline]
     pub fn v(&self, u: f64, n: f64) -> Result<Option<f64>, Refusal> {
-        let (trace, kind) = self.numbers();
+        let mut trace = [0.0; 10];
+        let kind = self.put(&mut trace);
         ffi::some_numbers(|out| ffi::jr_trace_v(&trace, kind, u, n, out))
             .map(|found| found.map(|[v]| v))
     }
 
-    /// The trace's numbers, and the tag of its kind.
-    pub(crate) fn numbers(&self) -> ([f64; 10], u32) {
+    /// Puts the trace's numbers into an array of zeros, and gives the tag of its kind.
+    #[inline]
+    pub(crate) fn put(&self, numbers: &mut [f64; 10]) -> u32 {
         match self {
             Self::Wave(w) => {
-                let mut numbers = [0.0; 10];
-                put(&mut numbers, 0, &w.numbers());
-                (numbers, WAVE)
+                numbers[..3].copy_from_slice(w.numbers());
+                WAVE
             }
-            Self::Meet(m) => (m.numbers(), if m.turn.is_none() { MEET } else { HOLE }),
+            Self::Meet(m) => {
+                m.put(numbers);
+                if m.turn.is_none() { MEET } else { HOLE }
+            }
         }
     }
 
     /// The trace of ten numbers and a tag; none for the tag of no trace.
+    #[inline]
     pub(crate) fn of(numbers: &[f64], kind: u32) -> Option<Self> {
         match kind {
-            WAVE => Some(Self::Wave(Wave { a: numbers[0], b: numbers[1], c: numbers[2] })),
+            WAVE => Some(Self::Wave(Wave::of(part(numbers, 0)))),
             MEET | HOLE => {
-                let [origin, axis] = [0, 3].map(|k| part(numbers, k).into());
+                let [origin, axis] = [0, 3].map(|k| Vec3::of(part(numbers, k)));
                 let turn = (kind == HOLE).then(|| part(numbers, 8));
                 let (radius, own) = (numbers[6], numbers[7]);
                 Some(Self::Meet(Meet { origin, axis, radius, own, turn }))

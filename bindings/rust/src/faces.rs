@@ -2,14 +2,14 @@
 
 use core::borrow::Borrow;
 
-use crate::ffi::{self, part, put};
-use crate::vectors::join;
+use crate::ffi::{self, laid_out};
 use crate::{Arc, Cone, Refusal, Rolled, Vec3};
 
 /// What is integrated over the faces of a body, measured from a point `o` that all calls share.
 /// Over all faces of a closed body, `six_v / 6` is its volume, `o + moment / (4 · six_v)` its
 /// centre of mass, and `area_vector` is 0.
 #[derive(Clone, Copy, Debug, PartialEq, Default)]
+#[repr(C)]
 pub struct Integrals {
     /// Six times the volume between `o` and the faces.
     pub six_v: f64,
@@ -21,34 +21,13 @@ pub struct Integrals {
     pub area_vector: Vec3,
 }
 
-impl Integrals {
-    /// Lends the sums as numbers and takes them back. A refused call leaves the numbers, and so the
-    /// sums, as they were.
-    fn lend(&mut self, call: impl FnOnce(&mut [f64; 8]) -> u32) -> Result<(), Refusal> {
-        let mut numbers = self.numbers();
-        ffi::settle(call(&mut numbers))?;
-        *self = Self::of(&numbers);
-        Ok(())
-    }
-
-    fn numbers(&self) -> [f64; 8] {
-        let mut numbers = [self.six_v; 8];
-        put(&mut numbers, 1, &self.moment.to_array());
-        numbers[4] = self.area;
-        put(&mut numbers, 5, &self.area_vector.to_array());
-        numbers
-    }
-
-    fn of(numbers: &[f64; 8]) -> Self {
-        let [moment, area_vector] = [1, 5].map(|k| part(numbers, k).into());
-        Self { six_v: numbers[0], moment, area: numbers[4], area_vector }
-    }
-}
+laid_out!(Integrals is 8: six_v at 0, moment at 1, area at 4, area_vector at 5);
 
 /// Adds to the sums of a plane face what lies between an arc from `u` to `v`, turning about `k`,
 /// and its chord: so much more than the polygon of the corners where the arc bulges out of the
 /// face, so much less where it bulges in. `n` is the face's normal, of length 1. The area of the
 /// sums is left as it is.
+#[inline]
 pub fn segment(
     acc: &mut Integrals,
     arc: &Arc,
@@ -58,13 +37,14 @@ pub fn segment(
     n: Vec3,
     o: Vec3,
 ) -> Result<(), Refusal> {
-    let (arc, [k, u, v, n, o]) = (arc.numbers(), [k, u, v, n, o].map(Vec3::to_array));
-    acc.lend(|sums| ffi::jr_segment(sums, &arc, &k, &u, &v, &n, &o))
+    let ([k, u, v], [n, o]) = ([&k, &u, &v].map(Vec3::numbers), [&n, &o].map(Vec3::numbers));
+    ffi::settle(ffi::jr_segment(acc.numbers_mut(), arc.numbers(), k, u, v, n, o))
 }
 
 /// Coordinates about the axis of a surface of revolution: the direction at the angle `θ` is
 /// `e1·cos θ + e2·sin θ`.
 #[derive(Clone, Copy, Debug, PartialEq)]
+#[repr(C)]
 pub struct Frame {
     /// The direction of the axis.
     pub axis: Vec3,
@@ -78,26 +58,24 @@ pub struct Frame {
 
 /// The frame of a cone or cylinder: `e1` is next to the coordinate axis that lies least along the
 /// cone's own.
+#[inline]
 pub fn frame(c: &Cone) -> Result<Frame, Refusal> {
-    ffi::numbers::<12>(|out| ffi::jr_cone_frame(&c.numbers(), out)).map(|numbers| {
-        let [axis, origin, e1, e2] = [0, 3, 6, 9].map(|k| part(&numbers, k).into());
-        Frame { axis, origin, e1, e2 }
-    })
+    ffi::numbers(|out| ffi::jr_cone_frame(c.numbers(), out)).map(Frame::of)
 }
+
+laid_out!(Frame is 12: axis at 0, origin at 3, e1 at 6, e2 at 9);
 
 impl Frame {
     /// The angle of the point `p` about the axis, from −π to π.
+    #[inline]
     pub fn angle(&self, p: Vec3) -> Result<f64, Refusal> {
-        ffi::number(|out| ffi::jr_frame_angle(&self.numbers(), &p.to_array(), out))
+        ffi::number(|out| ffi::jr_frame_angle(self.numbers(), p.numbers(), out))
     }
 
     /// The point at the angle `theta`, at `z` along the axis and `r` from it.
+    #[inline]
     pub fn point(&self, theta: f64, z: f64, r: f64) -> Result<Vec3, Refusal> {
-        ffi::numbers(|out| ffi::jr_frame_point(&self.numbers(), theta, z, r, out)).map(Vec3::from)
-    }
-
-    fn numbers(&self) -> [f64; 12] {
-        join([self.axis, self.origin, self.e1, self.e2])
+        ffi::numbers(|out| ffi::jr_frame_point(self.numbers(), theta, z, r, out)).map(Vec3::of)
     }
 }
 
@@ -143,6 +121,7 @@ pub enum Path {
 ///
 /// It opens a [`Revolution`], adds the paths in their order and closes it. A refusal on the way
 /// leaves the sums as they were.
+#[inline]
 pub fn revolution(
     acc: &mut Integrals,
     c: &Cone,
@@ -186,39 +165,39 @@ pub struct Revolution {
 
 impl Revolution {
     /// A face with no path yet.
+    #[inline]
     pub fn open(c: &Cone, o: Vec3) -> Result<Self, Refusal> {
-        ffi::numbers(|out| ffi::jr_revolution_open(&c.numbers(), &o.to_array(), out))
-            .map(|running| Self { cone: *c, o, running: Integrals::of(&running) })
+        ffi::numbers(|out| ffi::jr_revolution_open(c.numbers(), o.numbers(), out))
+            .map(|running| Self { cone: *c, o, running: Integrals::of(running) })
     }
 
     /// Adds a path. A refused one is not added, and the face is as it was.
+    #[inline]
     pub fn add(&mut self, path: &Path) -> Result<&mut Self, Refusal> {
-        let (c, o) = (self.cone.numbers(), self.o.to_array());
-        match path {
+        let (c, o, sums) = (self.cone.numbers(), self.o.numbers(), self.running.numbers_mut());
+        ffi::settle(match path {
             Path::Arc(arc, u, v) => {
-                let (arc, [u, v]) = (arc.numbers(), [*u, *v].map(Vec3::to_array));
-                self.running.lend(|sums| ffi::jr_revolution_add_arc(&c, &o, &arc, &u, &v, sums))?;
+                ffi::jr_revolution_add_arc(c, o, arc.numbers(), u.numbers(), v.numbers(), sums)
             }
             Path::Rolled(w) => {
-                let w = w.tagged();
-                self.running.lend(|sums| {
-                    ffi::jr_revolution_add_piece(&c, &o, &w.numbers, w.arc, w.trace, sums)
-                })?;
+                w.lend(|w, arc, trace| ffi::jr_revolution_add_piece(c, o, w, arc, trace, sums))
             }
-        }
+        })?;
         Ok(self)
     }
 
     /// Adds the face to the sums of its body.
+    #[inline]
     pub fn close(&self, acc: &mut Integrals) -> Result<(), Refusal> {
         let (c, running) = (self.cone.numbers(), self.running.numbers());
-        acc.lend(|sums| ffi::jr_revolution_close(&c, self.cone.convex, &running, sums))
+        ffi::settle(ffi::jr_revolution_close(c, self.cone.convex, running, acc.numbers_mut()))
     }
 }
 
 /// Adds to the sums the wall over the piece `w`, from `r0` to a greater `r1` from the axis of its
 /// development.
+#[inline]
 pub fn wall(acc: &mut Integrals, w: &Rolled, r0: f64, r1: f64, o: Vec3) -> Result<(), Refusal> {
-    let (w, o) = (w.tagged(), o.to_array());
-    acc.lend(|sums| ffi::jr_wall(sums, &w.numbers, w.arc, w.trace, r0, r1, &o))
+    let (sums, o) = (acc.numbers_mut(), o.numbers());
+    ffi::settle(w.lend(|w, arc, trace| ffi::jr_wall(sums, w, arc, trace, r0, r1, o)))
 }

@@ -43,8 +43,12 @@ unsafe extern "C" {
     ) -> u32;
     pub safe fn jr_per_turn(radius: f64, chord: f64, out: &mut [f64; 1]) -> u32;
     pub safe fn jr_arc_reversed(arc: &[f64; 7], out: &mut [f64; 7]) -> u32;
-    pub safe fn jr_arc_sweep(arc: &[f64; 7], from: &[f64; 3], to: &[f64; 3], out: &mut [f64; 1])
-    -> u32;
+    pub safe fn jr_arc_sweep(
+        arc: &[f64; 7],
+        from: &[f64; 3],
+        to: &[f64; 3],
+        out: &mut [f64; 1],
+    ) -> u32;
     pub safe fn jr_arc_at(arc: &[f64; 7], from: &[f64; 3], t: f64, out: &mut [f64; 3]) -> u32;
     pub safe fn jr_arc_extend_bounds(
         arc: &[f64; 7],
@@ -305,20 +309,26 @@ static LAYOUT: extern "C" fn() -> u32 = jr_layout_1;
 const NONE: u32 = 255;
 
 /// The refusal that a function answered, if any.
+#[inline]
 pub fn settle(answer: u32) -> Result<(), Refusal> {
     match answer {
         0 => Ok(()),
-        number => Err(Refusal::from_number(number).unwrap_or_else(|| unknown(number))),
+        number => Err(refused(number)),
     }
 }
 
-/// The tags of this crate are all known, so only an archive of another release gets here.
+/// The tags of this crate are all known, and so is every refusal of this layout.
 #[cold]
-fn unknown(answer: u32) -> ! {
-    panic!("the linked library answered {answer}, which this release of the crate does not know")
+fn refused(answer: u32) -> Refusal {
+    Refusal::from_number(answer).unwrap_or_else(|| {
+        panic!(
+            "the linked library answered {answer}, which this release of the crate does not know"
+        )
+    })
 }
 
 /// What a call writes.
+#[inline]
 pub fn numbers<const N: usize>(
     call: impl FnOnce(&mut [f64; N]) -> u32,
 ) -> Result<[f64; N], Refusal> {
@@ -328,6 +338,7 @@ pub fn numbers<const N: usize>(
 }
 
 /// What a call writes, where there is such a thing.
+#[inline]
 pub fn some_numbers<const N: usize>(
     call: impl FnOnce(&mut [f64; N]) -> u32,
 ) -> Result<Option<[f64; N]>, Refusal> {
@@ -339,11 +350,13 @@ pub fn some_numbers<const N: usize>(
 }
 
 /// The one number that a call writes.
+#[inline]
 pub fn number(call: impl FnOnce(&mut [f64; 1]) -> u32) -> Result<f64, Refusal> {
     numbers(call).map(|[x]| x)
 }
 
 /// The count that a call writes. Counts end at 196,602, so every `usize` of 32 bits holds them.
+#[inline]
 pub fn count(call: impl FnOnce(&mut [u64; 1]) -> u32) -> Result<usize, Refusal> {
     let mut out = [0];
     settle(call(&mut out))?;
@@ -351,11 +364,62 @@ pub fn count(call: impl FnOnce(&mut [u64; 1]) -> u32) -> Result<usize, Refusal> 
 }
 
 /// The N numbers from the k-th on.
+#[inline]
 pub fn part<const N: usize>(numbers: &[f64], k: usize) -> [f64; N] {
     core::array::from_fn(|i| numbers[k + i])
 }
 
-/// Puts numbers into a longer row, from the k-th place on.
-pub fn put(row: &mut [f64], k: usize, numbers: &[f64]) {
-    row[k..k + numbers.len()].copy_from_slice(numbers);
+/// Puts numbers into a longer row from the k-th place on, in one go. The library reads a vector as
+/// two numbers and one, and a processor that finds these in two of its last writes waits for both:
+/// so what is put into a row goes there vector by vector.
+#[inline(always)]
+pub fn put<const N: usize, const M: usize>(row: &mut [f64; M], k: usize, numbers: &[f64; N]) {
+    row[k..k + N].copy_from_slice(numbers);
 }
+
+/// Lets a record cross as it is: its fields stand where the numbers of its array do, from the first
+/// on. `RECORD is COUNT` is all numbers, and an array can become one; `RECORD begins COUNT` has a
+/// flag or more behind its numbers. What is said is checked as the crate is compiled.
+macro_rules! laid_out {
+    ($record:ident begins $count:literal: $($field:ident at $place:literal),+) => {
+        const _: () = {
+            assert!(size_of::<$record>() >= 8 * $count);
+            assert!(align_of::<$record>() == align_of::<[f64; $count]>());
+            $(assert!(core::mem::offset_of!($record, $field) == 8 * $place);)+
+        };
+
+        #[allow(dead_code, reason = "a record takes what it needs")]
+        impl $record {
+            /// The record's numbers, as they stand.
+            #[inline]
+            pub(crate) const fn numbers(&self) -> &[f64; $count] {
+                // SAFETY: the record begins with so many numbers and nothing between them, as is
+                // checked above, and is as aligned as they are.
+                unsafe { &*(&raw const *self).cast() }
+            }
+        }
+    };
+    ($record:ident is $count:literal: $($field:ident at $place:literal),+) => {
+        $crate::ffi::laid_out!($record begins $count: $($field at $place),+);
+        const _: () = assert!(size_of::<$record>() == 8 * $count);
+
+        #[allow(dead_code, reason = "a record takes what it needs")]
+        impl $record {
+            /// The record of numbers, as they stand.
+            #[inline]
+            pub(crate) const fn of(numbers: [f64; $count]) -> Self {
+                // SAFETY: the record is so many numbers and nothing else, as is checked above.
+                unsafe { core::mem::transmute(numbers) }
+            }
+
+            /// The record lent to be written. A refused call writes nothing.
+            #[inline]
+            pub(crate) const fn numbers_mut(&mut self) -> &mut [f64; $count] {
+                // SAFETY: the record is so many numbers and nothing else, as is checked above, and
+                // any number may be written to each.
+                unsafe { &mut *(&raw mut *self).cast() }
+            }
+        }
+    };
+}
+pub(crate) use laid_out;

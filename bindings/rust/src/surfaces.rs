@@ -1,10 +1,11 @@
 //! Surfaces of faces.
 
-use crate::ffi::{self, part, put};
+use crate::ffi::{self, laid_out, part, put};
 use crate::{Refusal, Rigid, Rolled, Vec3};
 
 /// A plane. Its normal points out of the body and may have any length but 0.
 #[derive(Clone, Copy, Debug, PartialEq)]
+#[repr(C)]
 pub struct Plane {
     /// A point of the plane.
     pub origin: Vec3,
@@ -14,6 +15,7 @@ pub struct Plane {
 
 /// A circular cylinder.
 #[derive(Clone, Copy, Debug, PartialEq)]
+#[repr(C)]
 pub struct Cylinder {
     /// A point of its axis.
     pub origin: Vec3,
@@ -27,6 +29,7 @@ pub struct Cylinder {
 
 /// A circular cone.
 #[derive(Clone, Copy, Debug, PartialEq)]
+#[repr(C)]
 pub struct Cone {
     /// A point of its axis.
     pub origin: Vec3,
@@ -40,15 +43,12 @@ pub struct Cone {
     pub convex: bool,
 }
 
-impl Plane {
-    /// The plane of the first six numbers.
-    fn of(numbers: &[f64]) -> Self {
-        let [origin, normal] = [0, 3].map(|k| part(numbers, k).into());
-        Self { origin, normal }
-    }
-}
+laid_out!(Plane is 6: origin at 0, normal at 3);
+laid_out!(Cylinder begins 7: origin at 0, axis at 3, radius at 6);
+laid_out!(Cone begins 8: origin at 0, axis at 3, radius at 6, slope at 7);
 
 impl From<Cylinder> for Cone {
+    #[inline]
     fn from(c: Cylinder) -> Self {
         let Cylinder { origin, axis, radius, convex } = c;
         Self { origin, axis, radius, slope: 0.0, convex }
@@ -56,14 +56,10 @@ impl From<Cylinder> for Cone {
 }
 
 impl Cone {
-    pub(crate) fn numbers(&self) -> [f64; 8] {
-        let ([ox, oy, oz], [ax, ay, az]) = (self.origin.to_array(), self.axis.to_array());
-        [ox, oy, oz, ax, ay, az, self.radius, self.slope]
-    }
-
     /// The cone of the first eight numbers.
+    #[inline]
     fn of(numbers: &[f64], convex: bool) -> Self {
-        let [origin, axis] = [0, 3].map(|k| part(numbers, k).into());
+        let [origin, axis] = [0, 3].map(|k| Vec3::of(part(numbers, k)));
         Self { origin, axis, radius: numbers[6], slope: numbers[7], convex }
     }
 }
@@ -92,9 +88,9 @@ pub enum Surface {
     Wall(Rolled),
 }
 
-/// A surface as the library takes it.
-struct Tagged {
-    numbers: [f64; 26],
+/// What the library takes beside a surface's numbers.
+#[derive(Clone, Copy, Default)]
+struct Tags {
     kind: u32,
     convex: bool,
     arc: u32,
@@ -108,15 +104,15 @@ const WALL: u32 = 3;
 
 impl Surface {
     /// The plane, where the surface is one. Numbers of every surface are tried.
+    #[inline]
     pub fn plane(&self) -> Result<Option<&Plane>, Refusal> {
-        let s = self.tagged();
         let found = ffi::some_numbers(|out| {
-            ffi::jr_surface_plane(&s.numbers, s.kind, s.convex, s.arc, s.trace, out)
+            self.lend(|s, t| ffi::jr_surface_plane(s, t.kind, t.convex, t.arc, t.trace, out))
         })?;
         // The library hands the plane on as it is, so the caller gets a view of his own.
         Ok(match (self, found) {
             (Self::Plane(p), Some(numbers)) => {
-                debug_assert_eq!(Plane::of(&numbers), *p);
+                debug_assert_eq!(Plane::of(numbers), *p);
                 Some(p)
             }
             _ => None,
@@ -124,64 +120,82 @@ impl Surface {
     }
 
     /// A cylinder as a cone of no slope, a cone as itself, and none of the others.
+    #[inline]
     pub fn revolution(&self) -> Result<Option<Cone>, Refusal> {
-        let s = self.tagged();
+        let mut convex = true;
         let found = ffi::some_numbers::<8>(|out| {
-            ffi::jr_surface_revolution(&s.numbers, s.kind, s.convex, s.arc, s.trace, out)
+            self.lend(|s, t| {
+                convex = t.convex;
+                ffi::jr_surface_revolution(s, t.kind, t.convex, t.arc, t.trace, out)
+            })
         })?;
-        Ok(found.map(|numbers| Cone::of(&numbers, s.convex)))
+        Ok(found.map(|numbers| Cone::of(&numbers, convex)))
     }
 
     /// The surface moved by `m`.
+    #[inline]
     pub fn moved(&self, m: &Rigid) -> Result<Self, Refusal> {
-        let (s, m) = (self.tagged(), m.numbers());
+        let (m, mut tags) = (m.numbers(), Tags::default());
         ffi::numbers(|out| {
-            ffi::jr_surface_moved(&s.numbers, s.kind, s.convex, s.arc, s.trace, &m, out)
+            self.lend(|s, t| {
+                tags = t;
+                ffi::jr_surface_moved(s, t.kind, t.convex, t.arc, t.trace, m, out)
+            })
         })
-        .map(|numbers| Self::of(&Tagged { numbers, ..s }))
+        .map(|numbers| self.alike(&numbers, tags))
     }
 
     /// The normal, of length 1, out of the body at `p`, a point of the surface.
+    #[inline]
     pub fn normal_at(&self, p: Vec3) -> Result<Vec3, Refusal> {
-        let (s, p) = (self.tagged(), p.to_array());
         ffi::numbers(|out| {
-            ffi::jr_surface_normal_at(&s.numbers, s.kind, s.convex, s.arc, s.trace, &p, out)
+            self.lend(|s, t| {
+                ffi::jr_surface_normal_at(s, t.kind, t.convex, t.arc, t.trace, p.numbers(), out)
+            })
         })
-        .map(Vec3::from)
+        .map(Vec3::of)
     }
 
-    fn tagged(&self) -> Tagged {
-        let mut s = Tagged { numbers: [0.0; 26], kind: PLANE, convex: true, arc: 0, trace: 0 };
-        match *self {
+    /// Hands the surface on as the library takes it.
+    #[inline]
+    fn lend(&self, call: impl FnOnce(&[f64; 26], Tags) -> u32) -> u32 {
+        let mut numbers = [0.0; 26];
+        let tags = match self {
             Self::Plane(p) => {
-                put(&mut s.numbers, 0, &p.origin.to_array());
-                put(&mut s.numbers, 3, &p.normal.to_array());
+                put(&mut numbers, 0, p.origin.numbers());
+                put(&mut numbers, 3, p.normal.numbers());
+                Tags { kind: PLANE, ..Tags::default() }
             }
-            // A cylinder has a cone's numbers, but for the slope, which its tag does not use.
             Self::Cylinder(c) => {
-                put(&mut s.numbers, 0, &Cone::from(c).numbers());
-                (s.kind, s.convex) = (CYLINDER, c.convex);
+                put(&mut numbers, 0, c.origin.numbers());
+                put(&mut numbers, 3, c.axis.numbers());
+                numbers[6] = c.radius;
+                Tags { kind: CYLINDER, convex: c.convex, ..Tags::default() }
             }
             Self::Cone(c) => {
-                put(&mut s.numbers, 0, &c.numbers());
-                (s.kind, s.convex) = (CONE, c.convex);
+                put(&mut numbers, 0, c.origin.numbers());
+                put(&mut numbers, 3, c.axis.numbers());
+                put(&mut numbers, 6, &[c.radius, c.slope]);
+                Tags { kind: CONE, convex: c.convex, ..Tags::default() }
             }
             Self::Wall(w) => {
-                let w = w.tagged();
-                s = Tagged { numbers: w.numbers, kind: WALL, arc: w.arc, trace: w.trace, ..s };
+                let [arc, trace] = w.put(&mut numbers);
+                Tags { kind: WALL, convex: false, arc, trace }
             }
-        }
-        s
+        };
+        call(&numbers, tags)
     }
 
-    fn of(s: &Tagged) -> Self {
-        let cone = Cone::of(&s.numbers, s.convex);
+    /// The surface of the same kind of these numbers and tags.
+    #[inline]
+    fn alike(&self, numbers: &[f64; 26], tags: Tags) -> Self {
+        let cone = Cone::of(numbers, tags.convex);
         let Cone { origin, axis, radius, convex, .. } = cone;
-        match s.kind {
-            PLANE => Self::Plane(Plane::of(&s.numbers)),
-            CYLINDER => Self::Cylinder(Cylinder { origin, axis, radius, convex }),
-            CONE => Self::Cone(cone),
-            _ => Self::Wall(Rolled::of(&s.numbers, [s.arc, s.trace])),
+        match self {
+            Self::Plane(_) => Self::Plane(Plane::of(part(numbers, 0))),
+            Self::Cylinder(_) => Self::Cylinder(Cylinder { origin, axis, radius, convex }),
+            Self::Cone(_) => Self::Cone(cone),
+            Self::Wall(_) => Self::Wall(Rolled::of(numbers, [tags.arc, tags.trace])),
         }
     }
 }
