@@ -20,9 +20,12 @@ frame l = record { axis = vec3At l 0; origin = vec3At l 3; e1 = vec3At l 6; e2 =
 
 -- six volumes, moment, area, area vector
 abbrev pub sums : List Float → Integrals
-sums l = record { «six_v» = getD l 0 nan; moment = vec3At l 1; area = getD l 4 nan; «area_vector» = vec3At l 5 }
+sums l = record { surface = record { «six_v» = getD l 0 nan; moment = vec3At l 1; area = getD l 4 nan; «area_vector» = vec3At l 5 } }
 
 -- ---- records as numbers, in the same order
+abbrev pub ofCone : Cone → List Float
+ofCone c = c .origin .x ∷ c .origin .y ∷ c .origin .z ∷ c .axis .x ∷ c .axis .y ∷ c .axis .z ∷ c .radius ∷ c .slope ∷ []
+
 abbrev pub ofFrame : Frame → List Float
 ofFrame f =
     f .axis .x ∷ f .axis .y ∷ f .axis .z ∷ f .origin .x ∷ f .origin .y ∷ f .origin .z ∷ f .e1 .x ∷ f .e1 .y ∷ f .e1 .z
@@ -30,4 +33,5 @@ ofFrame f =
 
 abbrev pub ofSums : Integrals → List Float
 ofSums s =
-    s .«six_v» ∷ s .moment .x ∷ s .moment .y ∷ s .moment .z ∷ s .area ∷ s .«area_vector» .x ∷ s .«area_vector» .y ∷ s .«area_vector» .z ∷ []
+    s .surface .«six_v» ∷ s .surface .moment .x ∷ s .surface .moment .y ∷ s .surface .moment .z ∷ s .surface .area
+    ∷ s .surface .«area_vector» .x ∷ s .surface .«area_vector» .y ∷ s .surface .«area_vector» .z ∷ []

@@ -1,10 +1,13 @@
 // Records as arrays of numbers, and answers stored where they are due: arcs, motions, boxes.
 ghost use mathlib.Core.Path.{_≡_};
+ghost use Prim.Native.Nat.{_≤_};
+ghost use lib.ListN.{length};
 ghost use Rattle.motions.specs.Motions.{motionDue};
 ghost use Rattle.arcs.specs.Entries.{arcDue};
 ghost use Rattle.boxes.specs.Boxes.{widenedDue};
-ghost use Rattle.c_arrays.specs.Records.{numberOf, after};
+ghost use Rattle.c_arrays.specs.Records.{numberOf, over, after};
 ghost use Rattle.c_arrays.specs.ArcRecords.{rigid, arc, bounds, ofArc, ofRigid, ofBounds};
+use crate::vec3_at;
 use arcs::Arc;
 use arcs::ArcAnswer;
 use boxes::Bounds;
@@ -14,22 +17,36 @@ use motions::Rigid;
 use motions::Rows;
 use vectors::Vec3;
 
-pub fn arc_of(a: &[f64; 7]) -> Arc
+// The arc whose seven numbers an array begins with.
+pub fn arc_at(a: &[f64]) -> Arc
+    requires { ⌜ 7 ≤ length (now a) ⌝ }
     ensures { λ r. ⌜ r ≡ arc (now (a .entry)) ⌝ }
 {
     Arc {
-        center: Vec3 {
-            x: a[0],
-            y: a[1],
-            z: a[2],
-        },
-        axis: Vec3 {
-            x: a[3],
-            y: a[4],
-            z: a[5],
-        },
+        center: vec3_at(a, 0),
+        axis: vec3_at(a, 3),
         radius: a[6],
     }
+}
+
+pub fn arc_of(a: &[f64; 7]) -> Arc
+    ensures { λ r. ⌜ r ≡ arc (now (a .entry)) ⌝ }
+{
+    arc_at(a)
+}
+
+// The seven numbers of an arc put to the start of an array.
+pub fn put_arc(a: Arc, out: &mut [f64])
+    requires { ⌜ 7 ≤ length (now out) ⌝ }
+    ensures { λ _. ⌜ now (out .exit) ≡ over (now (out .entry)) 0 (ofArc a) ⌝ }
+{
+    out[0] = a.center.x;
+    out[1] = a.center.y;
+    out[2] = a.center.z;
+    out[3] = a.axis.x;
+    out[4] = a.axis.y;
+    out[5] = a.axis.z;
+    out[6] = a.radius;
 }
 
 pub fn rigid_of(a: &[f64; 12]) -> Rigid
@@ -84,13 +101,7 @@ pub fn store_arc(a: ArcAnswer, out: &mut [f64; 7]) -> u32
 {
     match a {
         ArcAnswer::Value(b) => {
-            out[0] = b.center.x;
-            out[1] = b.center.y;
-            out[2] = b.center.z;
-            out[3] = b.axis.x;
-            out[4] = b.axis.y;
-            out[5] = b.axis.z;
-            out[6] = b.radius;
+            put_arc(b, out);
             0
         }
         ArcAnswer::Refused(r) => r as u32,

@@ -1,34 +1,53 @@
 // Records as arrays of numbers, and answers stored where they are due: cones, frames, sums.
 ghost use mathlib.Core.Path.{_≡_};
+ghost use Prim.Native.Nat.{_≤_};
+ghost use lib.ListN.{length};
 ghost use Rattle.cones.specs.Entries.{frameAnswerDue};
 ghost use Rattle.integrals.specs.Sums.{addedDue};
-ghost use Rattle.c_arrays.specs.Records.{numberOf, after};
-ghost use Rattle.c_arrays.specs.FaceRecords.{cone, frame, sums, ofFrame, ofSums};
+ghost use Rattle.c_arrays.specs.Records.{numberOf, over, after};
+ghost use Rattle.c_arrays.specs.FaceRecords.{cone, frame, sums, ofCone, ofFrame, ofSums};
+use crate::vec3_at;
 use cones::Cone;
 use cones::Frame;
 use cones::FrameAnswer;
 use integrals::Added;
 use integrals::Integrals;
+use integrals::SurfaceIntegrals;
 use vectors::Vec3;
 
-pub fn cone_of(a: &[f64; 8], convex: bool) -> Cone
+// The cone whose eight numbers an array begins with.
+pub fn cone_at(a: &[f64], convex: bool) -> Cone
+    requires { ⌜ 8 ≤ length (now a) ⌝ }
     ensures { λ r. ⌜ r ≡ cone (now (a .entry)) convex ⌝ }
 {
     Cone {
-        origin: Vec3 {
-            x: a[0],
-            y: a[1],
-            z: a[2],
-        },
-        axis: Vec3 {
-            x: a[3],
-            y: a[4],
-            z: a[5],
-        },
+        origin: vec3_at(a, 0),
+        axis: vec3_at(a, 3),
         radius: a[6],
         slope: a[7],
         convex: convex,
     }
+}
+
+pub fn cone_of(a: &[f64; 8], convex: bool) -> Cone
+    ensures { λ r. ⌜ r ≡ cone (now (a .entry)) convex ⌝ }
+{
+    cone_at(a, convex)
+}
+
+// The eight numbers of a cone put to the start of an array.
+pub fn put_cone(c: Cone, out: &mut [f64])
+    requires { ⌜ 8 ≤ length (now out) ⌝ }
+    ensures { λ _. ⌜ now (out .exit) ≡ over (now (out .entry)) 0 (ofCone c) ⌝ }
+{
+    out[0] = c.origin.x;
+    out[1] = c.origin.y;
+    out[2] = c.origin.z;
+    out[3] = c.axis.x;
+    out[4] = c.axis.y;
+    out[5] = c.axis.z;
+    out[6] = c.radius;
+    out[7] = c.slope;
 }
 
 pub fn frame_of(a: &[f64; 12]) -> Frame
@@ -62,17 +81,11 @@ pub fn sums_of(a: &[f64; 8]) -> Integrals
     ensures { λ r. ⌜ r ≡ sums (now (a .entry)) ⌝ }
 {
     Integrals {
-        six_v: a[0],
-        moment: Vec3 {
-            x: a[1],
-            y: a[2],
-            z: a[3],
-        },
-        area: a[4],
-        area_vector: Vec3 {
-            x: a[5],
-            y: a[6],
-            z: a[7],
+        surface: SurfaceIntegrals {
+            six_v: a[0],
+            moment: vec3_at(a, 1),
+            area: a[4],
+            area_vector: vec3_at(a, 5),
         },
     }
 }
@@ -107,14 +120,14 @@ pub fn store_sums(a: Added, out: &mut [f64; 8]) -> u32
 {
     match a {
         Added::Sums(s) => {
-            out[0] = s.six_v;
-            out[1] = s.moment.x;
-            out[2] = s.moment.y;
-            out[3] = s.moment.z;
-            out[4] = s.area;
-            out[5] = s.area_vector.x;
-            out[6] = s.area_vector.y;
-            out[7] = s.area_vector.z;
+            out[0] = s.surface.six_v;
+            out[1] = s.surface.moment.x;
+            out[2] = s.surface.moment.y;
+            out[3] = s.surface.moment.z;
+            out[4] = s.surface.area;
+            out[5] = s.surface.area_vector.x;
+            out[6] = s.surface.area_vector.y;
+            out[7] = s.surface.area_vector.z;
             0
         }
         Added::Refused(r) => r as u32,

@@ -1,8 +1,10 @@
 // Records as arrays of numbers, and answers stored where they are due: numbers and vectors.
 ghost use mathlib.Core.Path.{_≡_};
+ghost use Prim.Native.Nat.{_+_, _≤_};
+ghost use lib.ListN.{length};
 ghost use Rattle.checked.specs.Checked.{numberDue};
 ghost use Rattle.vectors.specs.Entries.{vectorDue, indexDue};
-ghost use Rattle.c_arrays.specs.Records.{vec2, vec3, alone, ofVec3, ofSines, numberOf, after, sinesDue};
+ghost use Rattle.c_arrays.specs.Records.{vec2At, vec3At, vec2, vec3, alone, ofVec3, ofSines, numberOf, after, sinesDue};
 use checked::Number;
 use libm::sincos::CheckedSines;
 use vectors::Index;
@@ -20,20 +22,38 @@ pub const UNKNOWN_TAG: u32 = 254;
 
 pub const NONE: u32 = 255;
 
+// ---- the vectors whose numbers stand from place k on
+pub fn vec2_at(a: &[f64], k: usize) -> Vec2
+    requires { ⌜ k + 2 ≤ length (now a) ⌝ }
+    ensures { λ r. ⌜ r ≡ vec2At (now (a .entry)) k ⌝ }
+{
+    Vec2 {
+        x: a[k],
+        y: a[k + 1],
+    }
+}
+
+pub fn vec3_at(a: &[f64], k: usize) -> Vec3
+    requires { ⌜ k + 3 ≤ length (now a) ⌝ }
+    ensures { λ r. ⌜ r ≡ vec3At (now (a .entry)) k ⌝ }
+{
+    Vec3 {
+        x: a[k],
+        y: a[k + 1],
+        z: a[k + 2],
+    }
+}
+
 pub fn vec2_of(a: &[f64; 2]) -> Vec2
     ensures { λ r. ⌜ r ≡ vec2 (now (a .entry)) ⌝ }
 {
-    Vec2 { x: a[0], y: a[1] }
+    vec2_at(a, 0)
 }
 
 pub fn vec3_of(a: &[f64; 3]) -> Vec3
     ensures { λ r. ⌜ r ≡ vec3 (now (a .entry)) ⌝ }
 {
-    Vec3 {
-        x: a[0],
-        y: a[1],
-        z: a[2],
-    }
+    vec3_at(a, 0)
 }
 
 pub fn store_number(n: Number, out: &mut [f64; 1]) -> u32

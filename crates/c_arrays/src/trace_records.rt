@@ -1,29 +1,39 @@
 // Records as arrays of numbers, and answers stored where they are due: waves, meets, traces.
 ghost use mathlib.Core.Path.{_≡_};
+ghost use Prim.Native.Nat.{_+_, _≤_};
+ghost use lib.ListN.{length};
 ghost use Rattle.waves.specs.Entries.{jetDue, spanDue};
 ghost use Rattle.meets.specs.Entries.{pointsDue};
 ghost use Rattle.traces.specs.Traces.{heightDue};
 ghost use Rattle.c_arrays.specs.Records.{alone, numberOf, after};
-ghost use Rattle.c_arrays.specs.TraceRecords.{wave, isTurn, turnOf, meet, isTrace, traceOf, ofJet, ofSpan, ofPoints, someDue};
+ghost use Rattle.c_arrays.specs.TraceRecords.{waveAt, wave, isTurn, turnOf, meetAt, meet, isTrace, traceAt, traceOf, ofJet, ofSpan, ofPoints, someDue};
 use crate::NONE;
+use crate::vec3_at;
 use meets::Meet;
 use meets::MeetPoint;
 use meets::Turn;
 use traces::Height;
 use traces::Trace;
-use vectors::Vec3;
 use waves::Wave;
 use waves::WaveJet;
 use waves::WaveSpan;
 
+// The wave whose three numbers stand from place k on.
+fn wave_at(a: &[f64], k: usize) -> Wave
+    requires { ⌜ k + 3 ≤ length (now a) ⌝ }
+    ensures { λ r. ⌜ r ≡ waveAt (now (a .entry)) k ⌝ }
+{
+    Wave {
+        a: a[k],
+        b: a[k + 1],
+        c: a[k + 2],
+    }
+}
+
 pub fn wave_of(a: &[f64; 3]) -> Wave
     ensures { λ r. ⌜ r ≡ wave (now (a .entry)) ⌝ }
 {
-    Wave {
-        a: a[0],
-        b: a[1],
-        c: a[2],
-    }
+    wave_at(a, 0)
 }
 
 // Whether a tag is one of a meet's: 0 without `turn`, 1 with it.
@@ -44,24 +54,24 @@ fn turn_of(tag: u32, from: f64, to: f64) -> Turn
     }
 }
 
+// The meet whose ten numbers stand from place k on.
+fn meet_at(a: &[f64], k: usize, tag: u32) -> Meet
+    requires { ⌜ k + 10 ≤ length (now a) ⌝ }
+    ensures { λ r. ⌜ r ≡ meetAt (now (a .entry)) k tag ⌝ }
+{
+    Meet {
+        origin: vec3_at(a, k),
+        axis: vec3_at(a, k + 3),
+        radius: a[k + 6],
+        own: a[k + 7],
+        turn: turn_of(tag, a[k + 8], a[k + 9]),
+    }
+}
+
 pub fn meet_of(a: &[f64; 10], tag: u32) -> Meet
     ensures { λ r. ⌜ r ≡ meet (now (a .entry)) tag ⌝ }
 {
-    Meet {
-        origin: Vec3 {
-            x: a[0],
-            y: a[1],
-            z: a[2],
-        },
-        axis: Vec3 {
-            x: a[3],
-            y: a[4],
-            z: a[5],
-        },
-        radius: a[6],
-        own: a[7],
-        turn: turn_of(tag, a[8], a[9]),
-    }
+    meet_at(a, 0, tag)
 }
 
 // Whether a tag is one of a trace's: 1 a wave, 2 a meet without `turn`, 3 a meet with it.
@@ -71,20 +81,24 @@ pub fn is_trace(kind: u32) -> bool
     (1 <= kind) & (kind <= 3)
 }
 
+// The trace whose ten numbers stand from place k on.
+pub fn trace_at(a: &[f64], k: usize, kind: u32) -> Trace
+    requires { ⌜ k + 10 ≤ length (now a) ⌝ }
+    ensures { λ r. ⌜ r ≡ traceAt (now (a .entry)) k kind ⌝ }
+{
+    if kind == 1 {
+        Trace::Wave(wave_at(a, k))
+    } else if kind == 2 {
+        Trace::Meet(meet_at(a, k, 0))
+    } else {
+        Trace::Meet(meet_at(a, k, 1))
+    }
+}
+
 pub fn trace_of(a: &[f64; 10], kind: u32) -> Trace
     ensures { λ r. ⌜ r ≡ traceOf (now (a .entry)) kind ⌝ }
 {
-    if kind == 1 {
-        Trace::Wave(Wave {
-            a: a[0],
-            b: a[1],
-            c: a[2],
-        })
-    } else if kind == 2 {
-        Trace::Meet(meet_of(a, 0))
-    } else {
-        Trace::Meet(meet_of(a, 1))
-    }
+    trace_at(a, 0, kind)
 }
 
 // v and its two derivatives.

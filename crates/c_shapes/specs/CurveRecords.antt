@@ -9,8 +9,7 @@ use Rattle.curves.specs.declared.Curve.{Curve}
 use Rattle.curves.specs.declared.Curve.the-variants as curve-is
 use Rattle.c_arrays.specs.Records.{over}
 use Rattle.c_arrays.specs.ArcRecords.{arc, ofArc}
-use Rattle.c_shapes.specs.PieceRecords.{isPiece, piece}
-use Rattle.c_shapes.specs.Stores.{tagsOf, withPiece}
+use Rattle.piece_arrays.specs.Arrays.{isPiece, piece, tagsOf, withPiece}
 
 -- the tags of a curve: its kind is 0 for an arc, whose other tags are not read, and 1 for a piece
 unfoldable pub isCurve : ℕ → ℕ → ℕ → Bool

@@ -6,15 +6,13 @@ use mathlib.Core.List.{List, [], _∷_}
 use lib.Dec.{eqb, leb}
 use lib.ListN.{getD}
 use lib.Ieee.{Float, nan}
-use Rattle.cones.specs.declared.Cone.{Cone}
 use Rattle.surfaces.specs.declared.Plane.{Plane}
 use Rattle.surfaces.specs.declared.Cylinder.{Cylinder}
 use Rattle.surfaces.specs.declared.Surface.{Surface}
 use Rattle.surfaces.specs.declared.Surface.the-variants as surface-is
 use Rattle.c_arrays.specs.Records.{vec3At, over}
-use Rattle.c_arrays.specs.FaceRecords.{cone}
-use Rattle.c_shapes.specs.PieceRecords.{isPiece, piece}
-use Rattle.c_shapes.specs.Stores.{withPiece}
+use Rattle.c_arrays.specs.FaceRecords.{cone, ofCone}
+use Rattle.piece_arrays.specs.Arrays.{isPiece, piece, withPiece}
 
 -- ---- a surface from its array
 -- the tags of a surface: its kind is 0 for a plane, 1 for a cylinder, 2 for a cone, whose other tags are not read, and 3 for a wall
@@ -42,9 +40,6 @@ ofPlane p = p .origin .x ∷ p .origin .y ∷ p .origin .z ∷ p .normal .x ∷ 
 
 abbrev pub ofCylinder : Cylinder → List Float
 ofCylinder c = c .origin .x ∷ c .origin .y ∷ c .origin .z ∷ c .axis .x ∷ c .axis .y ∷ c .axis .z ∷ c .radius ∷ []
-
-abbrev pub ofCone : Cone → List Float
-ofCone c = c .origin .x ∷ c .origin .y ∷ c .origin .z ∷ c .axis .x ∷ c .axis .y ∷ c .axis .z ∷ c .radius ∷ c .slope ∷ []
 
 -- the surface's numbers over what an array held
 unfoldable pub withSurface : List Float → Surface → List Float

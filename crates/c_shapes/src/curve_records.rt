@@ -6,18 +6,18 @@ ghost use Rattle.c_arrays.specs.ArcRecords.{ofArc};
 ghost use Rattle.c_arrays.specs.TraceRecords.{someDue};
 ghost use Rattle.c_shapes.specs.Stores.{stored};
 ghost use Rattle.c_shapes.specs.CurveRecords.{isCurve, curve, withCurve, curveTags};
-use crate::piece_records::is_piece;
-use crate::piece_records::piece_of;
-use crate::piece_stores::arc_tag;
-use crate::piece_stores::put_piece;
-use crate::piece_stores::trace_tag;
-use arcs::Arc;
 use c_arrays::NONE;
+use c_arrays::arc_records::arc_at;
+use c_arrays::arc_records::put_arc;
 use curves::Curve;
 use curves::CurveAnswer;
 use curves::CurveArc;
 use curves::RolledAt;
-use vectors::Vec3;
+use piece_arrays::arc_tag;
+use piece_arrays::is_piece;
+use piece_arrays::piece_at;
+use piece_arrays::put_piece;
+use piece_arrays::trace_tag;
 
 // Whether the tags are a curve's: 0 an arc, whose other tags are not read, 1 a piece.
 pub fn is_curve(kind: u32, arc: u32, trace: u32) -> bool
@@ -30,66 +30,14 @@ pub fn curve_of(a: &[f64; 27], kind: u32, arc: u32, trace: u32) -> Curve
     ensures { λ r. ⌜ r ≡ curve (now (a .entry)) kind arc trace ⌝ }
 {
     if kind == 0 {
-        Curve::Arc(Arc {
-            center: Vec3 {
-                x: a[0],
-                y: a[1],
-                z: a[2],
-            },
-            axis: Vec3 {
-                x: a[3],
-                y: a[4],
-                z: a[5],
-            },
-            radius: a[6],
-        })
+        Curve::Arc(arc_at(a))
     } else {
-        let w: [f64; 26] = [
-            a[0],
-            a[1],
-            a[2],
-            a[3],
-            a[4],
-            a[5],
-            a[6],
-            a[7],
-            a[8],
-            a[9],
-            a[10],
-            a[11],
-            a[12],
-            a[13],
-            a[14],
-            a[15],
-            a[16],
-            a[17],
-            a[18],
-            a[19],
-            a[20],
-            a[21],
-            a[22],
-            a[23],
-            a[24],
-            a[25],
-        ];
-        let p = piece_of(&w, arc, trace);
+        let p = piece_at(a, arc, trace);
         Curve::Rolled(RolledAt {
             piece: p,
             radius: a[26],
         })
     }
-}
-
-fn put_arc(a: Arc, out: &mut [f64; 27])
-    ensures { λ _. ⌜ now (out .exit) ≡ over (now (out .entry)) 0 (ofArc a) ⌝ }
-{
-    out[0] = a.center.x;
-    out[1] = a.center.y;
-    out[2] = a.center.z;
-    out[3] = a.axis.x;
-    out[4] = a.axis.y;
-    out[5] = a.axis.z;
-    out[6] = a.radius;
 }
 
 fn put_curve(c: Curve, out: &mut [f64; 27])
@@ -156,13 +104,7 @@ pub fn store_curve_arc(a: CurveArc, out: &mut [f64; 7]) -> u32
 {
     match a {
         CurveArc::Value(b) => {
-            out[0] = b.center.x;
-            out[1] = b.center.y;
-            out[2] = b.center.z;
-            out[3] = b.axis.x;
-            out[4] = b.axis.y;
-            out[5] = b.axis.z;
-            out[6] = b.radius;
+            put_arc(b, out);
             0
         }
         CurveArc::Nothing => NONE,

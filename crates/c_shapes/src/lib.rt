@@ -1,5 +1,4 @@
 // Pieces, curves and surfaces as arrays of numbers.
 pub mod curve_records;
 pub mod piece_records;
-pub mod piece_stores;
 pub mod surface_records;

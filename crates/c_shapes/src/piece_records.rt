@@ -1,113 +1,19 @@
-// Records as arrays of numbers, and answers stored where they are due: pieces of a development.
+// Answers stored where they are due: those of pieces of a development.
 ghost use mathlib.Core.Path.{_≡_};
-ghost use Rattle.pieces.specs.Entries.{placeDue, flatDue, measuredDue, countDue, boxDue};
+ghost use Rattle.pieces.specs.Entries.{placeDue, flatDue, pieceDue, measuredDue, countDue, boxDue};
 ghost use Rattle.c_arrays.specs.Records.{alone, ofVec2, numberOf, after};
-ghost use Rattle.c_shapes.specs.PieceRecords.{isPiece, pieceArc, hole, pieceTrace, piece, ofPlace, ofMeasure, ofBox};
-use developments::Development;
-use meets::Meet;
-use meets::Turn;
-use piece_curves::PieceArc;
-use piece_curves::PieceTrace;
-use pieces::Rolled;
+ghost use Rattle.piece_arrays.specs.Arrays.{tagsOf, withPiece};
+ghost use Rattle.c_shapes.specs.PieceRecords.{ofPlace, ofMeasure, ofBox};
+ghost use Rattle.c_shapes.specs.Stores.{stored};
+use piece_arrays::arc_tag;
+use piece_arrays::put_piece;
+use piece_arrays::trace_tag;
 use pieces::RolledBox;
 use pieces::RolledCount;
 use pieces::RolledMeasure;
+use pieces::RolledPiece;
 use pieces::RolledPoint;
 use pieces::RolledSecond;
-use profile_arcs::ProfileArc;
-use traces::Trace;
-use vectors::Vec2;
-use vectors::Vec3;
-use waves::Wave;
-
-// Whether both tags are a piece's. Its arc: 0 none, 1 counterclockwise, 2 clockwise; its trace: 0 none, else a trace's own.
-pub fn is_piece(arc: u32, trace: u32) -> bool
-    ensures { λ r. ⌜ r ≡ isPiece arc trace ⌝ }
-{
-    (arc <= 2) & (trace <= 3)
-}
-
-fn arc_of(tag: u32, c: Vec2) -> PieceArc
-    ensures { λ r. ⌜ r ≡ pieceArc tag c ⌝ }
-{
-    if tag == 0 {
-        PieceArc::Without
-    } else {
-        PieceArc::With(ProfileArc {
-            center: c,
-            ccw: tag == 1,
-        })
-    }
-}
-
-fn hole_of(a: &[f64; 26], turn: Turn) -> Meet
-    ensures { λ r. ⌜ r ≡ hole (now (a .entry)) turn ⌝ }
-{
-    Meet {
-        origin: Vec3 {
-            x: a[16],
-            y: a[17],
-            z: a[18],
-        },
-        axis: Vec3 {
-            x: a[19],
-            y: a[20],
-            z: a[21],
-        },
-        radius: a[22],
-        own: a[23],
-        turn: turn,
-    }
-}
-
-fn trace_of(a: &[f64; 26], tag: u32) -> PieceTrace
-    ensures { λ r. ⌜ r ≡ pieceTrace (now (a .entry)) tag ⌝ }
-{
-    if tag == 0 {
-        PieceTrace::Without
-    } else if tag == 1 {
-        PieceTrace::With(Trace::Wave(Wave {
-            a: a[16],
-            b: a[17],
-            c: a[18],
-        }))
-    } else if tag == 2 {
-        PieceTrace::With(Trace::Meet(hole_of(a, Turn::Without)))
-    } else {
-        PieceTrace::With(Trace::Meet(hole_of(a, Turn::Angles(a[24], a[25]))))
-    }
-}
-
-pub fn piece_of(a: &[f64; 26], arc: u32, trace: u32) -> Rolled
-    ensures { λ r. ⌜ r ≡ piece (now (a .entry)) arc trace ⌝ }
-{
-    let d = Development {
-        origin: Vec3 {
-            x: a[0],
-            y: a[1],
-            z: a[2],
-        },
-        axis: Vec3 {
-            x: a[3],
-            y: a[4],
-            z: a[5],
-        },
-        start: Vec3 {
-            x: a[6],
-            y: a[7],
-            z: a[8],
-        },
-        neutral: a[9],
-    };
-    let c = Vec2 { x: a[14], y: a[15] };
-    Rolled {
-        dev: d,
-        from: Vec2 { x: a[10], y: a[11] },
-        to: Vec2 { x: a[12], y: a[13] },
-        arc: arc_of(arc, c),
-        trace: trace_of(a, trace),
-    }
-}
 
 // The point and its derivative.
 pub fn store_place(p: RolledPoint, out: &mut [f64; 4]) -> u32
@@ -183,5 +89,24 @@ pub fn store_box(a: RolledBox, out: &mut [f64; 4]) -> u32
             0
         }
         RolledBox::Refused(r) => r as u32,
+    }
+}
+
+// The piece, beside its tags.
+pub fn store_piece(a: RolledPiece, out: &mut [f64; 26], tags: &mut [u32; 2]) -> u32
+    ensures number { λ r. ⌜ r ≡ numberOf (pieceDue a) ⌝ }
+    ensures out { λ _. ⌜ now (out .exit) ≡ stored withPiece (now (out .entry)) (pieceDue a) ⌝ }
+    ensures tags { λ _. ⌜ now (tags .exit) ≡ after tagsOf (now (tags .entry)) (pieceDue a) ⌝ }
+{
+    match a {
+        RolledPiece::Value(p) => {
+            let arc = p.arc;
+            let trace = p.trace;
+            put_piece(p, out);
+            tags[0] = arc_tag(arc);
+            tags[1] = trace_tag(trace);
+            0
+        }
+        RolledPiece::Refused(r) => r as u32,
     }
 }

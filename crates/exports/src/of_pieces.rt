@@ -2,19 +2,20 @@
 ghost use mathlib.Core.Path.{_≡_};
 ghost use Rattle.pieces.specs.Entries as Pieces;
 ghost use Rattle.c_arrays.specs.Records.{vec2, alone, ofVec2, ofVec3, numberOf, after, tagDue};
-ghost use Rattle.c_shapes.specs.PieceRecords.{isPiece, piece, ofPlace, ofMeasure, ofBox};
-ghost use Rattle.c_shapes.specs.Stores.{tagsOf, withPiece, stored};
+ghost use Rattle.piece_arrays.specs.Arrays.{isPiece, piece, tagsOf, withPiece};
+ghost use Rattle.c_shapes.specs.PieceRecords.{ofPlace, ofMeasure, ofBox};
+ghost use Rattle.c_shapes.specs.Stores.{stored};
 use c_arrays::UNKNOWN_TAG;
 use c_arrays::store_vector;
 use c_arrays::vec2_of;
-use c_shapes::piece_records::is_piece;
-use c_shapes::piece_records::piece_of;
 use c_shapes::piece_records::store_box;
 use c_shapes::piece_records::store_count;
 use c_shapes::piece_records::store_measure;
+use c_shapes::piece_records::store_piece;
 use c_shapes::piece_records::store_place;
 use c_shapes::piece_records::store_second;
-use c_shapes::piece_stores::store_piece;
+use piece_arrays::is_piece;
+use piece_arrays::piece_of;
 
 // The box of the piece w in its development: the least and the greatest u, the least and the
 // greatest v.

@@ -8,15 +8,15 @@ ghost use Rattle.walls.specs.Entries.{wallDue};
 ghost use Rattle.c_arrays.specs.Records.{vec3, numberOf, after, tagDue};
 ghost use Rattle.c_arrays.specs.ArcRecords.{arc};
 ghost use Rattle.c_arrays.specs.FaceRecords.{cone, sums, ofSums};
-ghost use Rattle.c_shapes.specs.PieceRecords.{isPiece, piece};
+ghost use Rattle.piece_arrays.specs.Arrays.{isPiece, piece};
 use c_arrays::UNKNOWN_TAG;
 use c_arrays::arc_records::arc_of;
 use c_arrays::face_records::cone_of;
 use c_arrays::face_records::store_sums;
 use c_arrays::face_records::sums_of;
 use c_arrays::vec3_of;
-use c_shapes::piece_records::is_piece;
-use c_shapes::piece_records::piece_of;
+use piece_arrays::is_piece;
+use piece_arrays::piece_of;
 use revolutions::closings;
 use walls::cut_walls;
 
@@ -92,23 +92,15 @@ pub extern "C" fn jr_revolution_add_piece(
     trace: u32,
     running: &mut [f64; 8],
 ) -> u32
-    ensures number { λ r. ⌜ r ≡ numberOf (tagDue (isPiece arc trace) (Revolutions.addDue (cone (now (c .entry)) true) (vec3 (now (o .entry))) (Revolutions.piece (piece (now (w .entry)) arc trace .dev) (piece (now (w .entry)) arc trace .from) (piece (now (w .entry)) arc trace .to) (piece (now (w .entry)) arc trace .arc) (piece (now (w .entry)) arc trace .trace)) (sums (now (running .entry))))) ⌝ }
-    ensures running { λ _. ⌜ now (running .exit) ≡ after ofSums (now (running .entry)) (tagDue (isPiece arc trace) (Revolutions.addDue (cone (now (c .entry)) true) (vec3 (now (o .entry))) (Revolutions.piece (piece (now (w .entry)) arc trace .dev) (piece (now (w .entry)) arc trace .from) (piece (now (w .entry)) arc trace .to) (piece (now (w .entry)) arc trace .arc) (piece (now (w .entry)) arc trace .trace)) (sums (now (running .entry))))) ⌝ }
+    ensures number { λ r. ⌜ r ≡ numberOf (tagDue (isPiece arc trace) (Revolutions.addDue (cone (now (c .entry)) true) (vec3 (now (o .entry))) (Revolutions.piece (piece (now (w .entry)) arc trace)) (sums (now (running .entry))))) ⌝ }
+    ensures running { λ _. ⌜ now (running .exit) ≡ after ofSums (now (running .entry)) (tagDue (isPiece arc trace) (Revolutions.addDue (cone (now (c .entry)) true) (vec3 (now (o .entry))) (Revolutions.piece (piece (now (w .entry)) arc trace)) (sums (now (running .entry))))) ⌝ }
 {
     if is_piece(arc, trace) {
         let k = cone_of(c, true);
         let origin = vec3_of(o);
         let p = piece_of(w, arc, trace);
         let old = sums_of(running);
-        let d = p.dev;
-        let from = p.from;
-        let to = p.to;
-        let bow = p.arc;
-        let path = p.trace;
-        store_sums(
-            revolutions::add_piece(old, k, d, from, to, bow, path, origin),
-            running,
-        )
+        store_sums(revolutions::add_piece(old, k, p, origin), running)
     } else {
         UNKNOWN_TAG
     }
@@ -144,22 +136,14 @@ pub extern "C" fn jr_wall(
     r1: f64,
     o: &[f64; 3],
 ) -> u32
-    ensures number { λ r. ⌜ r ≡ numberOf (tagDue (isPiece arc trace) (wallDue (piece (now (w .entry)) arc trace .dev) (piece (now (w .entry)) arc trace .from) (piece (now (w .entry)) arc trace .to) (piece (now (w .entry)) arc trace .arc) (piece (now (w .entry)) arc trace .trace) r0 r1 (vec3 (now (o .entry))) (sums (now (acc .entry))))) ⌝ }
-    ensures acc { λ _. ⌜ now (acc .exit) ≡ after ofSums (now (acc .entry)) (tagDue (isPiece arc trace) (wallDue (piece (now (w .entry)) arc trace .dev) (piece (now (w .entry)) arc trace .from) (piece (now (w .entry)) arc trace .to) (piece (now (w .entry)) arc trace .arc) (piece (now (w .entry)) arc trace .trace) r0 r1 (vec3 (now (o .entry))) (sums (now (acc .entry))))) ⌝ }
+    ensures number { λ r. ⌜ r ≡ numberOf (tagDue (isPiece arc trace) (wallDue (piece (now (w .entry)) arc trace) r0 r1 (vec3 (now (o .entry))) (sums (now (acc .entry))))) ⌝ }
+    ensures acc { λ _. ⌜ now (acc .exit) ≡ after ofSums (now (acc .entry)) (tagDue (isPiece arc trace) (wallDue (piece (now (w .entry)) arc trace) r0 r1 (vec3 (now (o .entry))) (sums (now (acc .entry))))) ⌝ }
 {
     if is_piece(arc, trace) {
         let p = piece_of(w, arc, trace);
         let origin = vec3_of(o);
         let old = sums_of(acc);
-        let d = p.dev;
-        let from = p.from;
-        let to = p.to;
-        let bow = p.arc;
-        let path = p.trace;
-        store_sums(
-            cut_walls::with_cut_wall(old, d, from, to, bow, path, r0, r1, origin),
-            acc,
-        )
+        store_sums(cut_walls::with_cut_wall(old, p, r0, r1, origin), acc)
     } else {
         UNKNOWN_TAG
     }

@@ -5,7 +5,8 @@ ghost use Rattle.c_arrays.specs.Records.{vec3, ofVec3, numberOf, after, tagDue}
 ghost use Rattle.c_arrays.specs.ArcRecords.{rigid};
 ghost use Rattle.c_arrays.specs.TraceRecords.{someDue};
 ghost use Rattle.c_shapes.specs.Stores.{stored};
-ghost use Rattle.c_shapes.specs.SurfaceRecords.{isSurface, surface, ofPlane, ofCone, withSurface};
+ghost use Rattle.c_arrays.specs.FaceRecords.{ofCone};
+ghost use Rattle.c_shapes.specs.SurfaceRecords.{isSurface, surface, ofPlane, withSurface};
 use c_arrays::UNKNOWN_TAG;
 use c_arrays::arc_records::rigid_of;
 use c_arrays::store_vector;

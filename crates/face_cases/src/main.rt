@@ -7,8 +7,10 @@ use cones::Cone;
 use developments::Development;
 use integrals::Added;
 use integrals::Integrals;
+use integrals::SurfaceIntegrals;
 use piece_curves::PieceArc;
 use piece_curves::PieceTrace;
+use pieces::Rolled;
 use profile_arcs::ProfileArc;
 use revolutions::closings;
 use vectors::Vec2;
@@ -54,24 +56,17 @@ fn vec(x: f64, y: f64, z: f64) -> Vec3 {
     Vec3 { x: x, y: y, z: z }
 }
 
-fn nothing() -> Integrals {
-    Integrals {
-        six_v: 0.0,
-        moment: Vec3::ZERO,
-        area: 0.0,
-        area_vector: Vec3::ZERO,
-    }
-}
-
 // The sums, or a NaN in them where there are none.
 fn sums_of(answer: Added) -> Integrals {
     match answer {
         Added::Sums(s) => s,
         Added::Refused(_) => Integrals {
-            six_v: 0.0 / 0.0,
-            moment: Vec3::ZERO,
-            area: 0.0 / 0.0,
-            area_vector: Vec3::ZERO,
+            surface: SurfaceIntegrals {
+                six_v: 0.0 / 0.0,
+                moment: Vec3::ZERO,
+                area: 0.0 / 0.0,
+                area_vector: Vec3::ZERO,
+            },
         },
     }
 }
@@ -131,38 +126,37 @@ fn rectangle(acc: Integrals, r: f64, h: f64) -> Integrals {
     let area = 2.0 * r * h;
     let six_v = 2.0 * HERE.y * area;
     let k = 3.0 * six_v;
+    let s = acc.surface;
     Integrals {
-        six_v: acc.six_v + six_v,
-        moment: vec(
-            acc.moment.x - HERE.x * k,
-            acc.moment.y - HERE.y * k,
-            acc.moment.z + (0.5 * h - HERE.z) * k,
-        ),
-        area: acc.area,
-        area_vector: vec(
-            acc.area_vector.x,
-            acc.area_vector.y - area,
-            acc.area_vector.z,
-        ),
+        surface: SurfaceIntegrals {
+            six_v: s.six_v + six_v,
+            moment: vec(
+                s.moment.x - HERE.x * k,
+                s.moment.y - HERE.y * k,
+                s.moment.z + (0.5 * h - HERE.z) * k,
+            ),
+            area: s.area,
+            area_vector: vec(s.area_vector.x, s.area_vector.y - area, s.area_vector.z),
+        },
     }
 }
 
 // A closed body: its volume, the area of its round side, its centre, and an area vector of 0.
 fn body(s: Integrals, volume: f64, area: f64, y: f64, z: f64) {
-    let k = 4.0 * s.six_v;
-    compare(b"  volume", volume, s.six_v / 6.0, volume);
-    compare(b"  round side's area", area, s.area, area);
-    compare(b"  centre x", 0.0, HERE.x + s.moment.x / k, 100.0);
-    compare(b"  centre y", y, HERE.y + s.moment.y / k, 100.0);
-    compare(b"  centre z", z, HERE.z + s.moment.z / k, 100.0);
-    compare(b"  area vector x", 0.0, s.area_vector.x, area);
-    compare(b"  area vector y", 0.0, s.area_vector.y, area);
-    compare(b"  area vector z", 0.0, s.area_vector.z, area);
+    let k = 4.0 * s.surface.six_v;
+    compare(b"  volume", volume, s.surface.six_v / 6.0, volume);
+    compare(b"  round side's area", area, s.surface.area, area);
+    compare(b"  centre x", 0.0, HERE.x + s.surface.moment.x / k, 100.0);
+    compare(b"  centre y", y, HERE.y + s.surface.moment.y / k, 100.0);
+    compare(b"  centre z", z, HERE.z + s.surface.moment.z / k, 100.0);
+    compare(b"  area vector x", 0.0, s.surface.area_vector.x, area);
+    compare(b"  area vector y", 0.0, s.surface.area_vector.y, area);
+    compare(b"  area vector z", 0.0, s.surface.area_vector.z, area);
 }
 
 fn cylinder() {
     say(b"cylinder of radius 50 and height 100\n");
-    let s = side(nothing(), 50.0, 0.0, 100.0, 1.0);
+    let s = side(Integrals::NOTHING, 50.0, 0.0, 100.0, 1.0);
     let s = disk(s, 100.0, 1.0, 50.0, 1.0, 1.0);
     let s = disk(s, 0.0, -1.0, 50.0, 1.0, 1.0);
     body(s, PI * 250000.0, PI * 10000.0, 0.0, 50.0);
@@ -171,7 +165,7 @@ fn cylinder() {
 // The slant is the root of 80 times 80 and 20 times 20.
 fn frustum() {
     say(b"frustum of the radii 50 and 30 and the height 80\n");
-    let s = side(nothing(), 50.0, -0.25, 80.0, 1.0);
+    let s = side(Integrals::NOTHING, 50.0, -0.25, 80.0, 1.0);
     let s = disk(s, 80.0, 1.0, 30.0, 1.0, 1.0);
     let s = disk(s, 0.0, -1.0, 50.0, 1.0, 1.0);
     body(
@@ -185,7 +179,7 @@ fn frustum() {
 
 fn half_cylinder() {
     say(b"half of a cylinder of radius 50 and height 100\n");
-    let s = side(nothing(), 50.0, 0.0, 100.0, -1.0);
+    let s = side(Integrals::NOTHING, 50.0, 0.0, 100.0, -1.0);
     let s = disk(s, 100.0, 1.0, 50.0, 1.0, -1.0);
     let s = disk(s, 0.0, -1.0, 50.0, -1.0, 1.0);
     let s = rectangle(s, 50.0, 100.0);
@@ -202,13 +196,28 @@ fn one_rim_in_parts() {
     let both = add_arc(first, c, 100.0, -1.0, 50.0, -50.0, 50.0);
     compare(
         b"  six times the volume",
-        whole.six_v,
-        both.six_v,
-        whole.six_v,
+        whole.surface.six_v,
+        both.surface.six_v,
+        whole.surface.six_v,
     );
-    compare(b"  area", whole.area, both.area, whole.area);
-    compare(b"  moment x", whole.moment.x, both.moment.x, 1e8);
-    compare(b"  moment z", whole.moment.z, both.moment.z, 1e8);
+    compare(
+        b"  area",
+        whole.surface.area,
+        both.surface.area,
+        whole.surface.area,
+    );
+    compare(
+        b"  moment x",
+        whole.surface.moment.x,
+        both.surface.moment.x,
+        1e8,
+    );
+    compare(
+        b"  moment z",
+        whole.surface.moment.z,
+        both.surface.moment.z,
+        1e8,
+    );
 }
 
 // A sheet around the z axis, its neutral layer at 50 from it.
@@ -221,16 +230,27 @@ fn sheet() -> Development {
     }
 }
 
+// A piece of the sheet without a trace.
+fn piece(from: Vec2, to: Vec2, arc: PieceArc) -> Rolled {
+    Rolled {
+        dev: sheet(),
+        from: from,
+        to: to,
+        arc: arc,
+        trace: PieceTrace::Without,
+    }
+}
+
 // A straight piece across the axis at height v added to the cylinder's side, by the sheet that is rolled to it.
 fn add_straight(s: Integrals, from: f64, to: f64, v: f64) -> Integrals {
     sums_of(revolutions::add_piece(
         s,
         cone(50.0, 0.0),
-        sheet(),
-        Vec2 { x: from, y: v },
-        Vec2 { x: to, y: v },
-        PieceArc::Without,
-        PieceTrace::Without,
+        piece(
+            Vec2 { x: from, y: v },
+            Vec2 { x: to, y: v },
+            PieceArc::Without,
+        ),
         HERE,
     ))
 }
@@ -244,27 +264,47 @@ fn add_quarters(s: Integrals, from: f64, quarter: f64, v: f64) -> Integrals {
 }
 
 fn compare_sums(due: Integrals, found: Integrals) {
-    compare(b"  six times the volume", due.six_v, found.six_v, 1e6);
-    compare(b"  moment x", due.moment.x, found.moment.x, 1e8);
-    compare(b"  moment y", due.moment.y, found.moment.y, 1e8);
-    compare(b"  moment z", due.moment.z, found.moment.z, 1e8);
-    compare(b"  area", due.area, found.area, 1e4);
+    compare(
+        b"  six times the volume",
+        due.surface.six_v,
+        found.surface.six_v,
+        1e6,
+    );
+    compare(
+        b"  moment x",
+        due.surface.moment.x,
+        found.surface.moment.x,
+        1e8,
+    );
+    compare(
+        b"  moment y",
+        due.surface.moment.y,
+        found.surface.moment.y,
+        1e8,
+    );
+    compare(
+        b"  moment z",
+        due.surface.moment.z,
+        found.surface.moment.z,
+        1e8,
+    );
+    compare(b"  area", due.surface.area, found.surface.area, 1e4);
     compare(
         b"  area vector x",
-        due.area_vector.x,
-        found.area_vector.x,
+        due.surface.area_vector.x,
+        found.surface.area_vector.x,
         1e4,
     );
     compare(
         b"  area vector y",
-        due.area_vector.y,
-        found.area_vector.y,
+        due.surface.area_vector.y,
+        found.surface.area_vector.y,
         1e4,
     );
     compare(
         b"  area vector z",
-        due.area_vector.z,
-        found.area_vector.z,
+        due.surface.area_vector.z,
+        found.surface.area_vector.z,
         1e4,
     );
 }
@@ -280,7 +320,7 @@ fn one_face_in_pieces() {
     let parts = add_quarters(half, all, -25.0 * PI, 100.0);
     compare_sums(whole, parts);
     say(b"the same by arcs\n");
-    compare_sums(whole, side(nothing(), 50.0, 0.0, 100.0, 1.0));
+    compare_sums(whole, side(Integrals::NOTHING, 50.0, 0.0, 100.0, 1.0));
 }
 
 // The notch is half a circle of radius 10 about (25 pi, 100), which the face's loop runs clockwise. With J the Bessel function of order 1
@@ -297,31 +337,31 @@ fn half_cylinder_with_a_notch() {
     let cut = sums_of(revolutions::add_piece(
         right,
         cone(50.0, 0.0),
-        sheet(),
-        Vec2 {
-            x: mid + 10.0,
-            y: 100.0,
-        },
-        Vec2 {
-            x: mid - 10.0,
-            y: 100.0,
-        },
-        PieceArc::With(ProfileArc {
-            center: Vec2 { x: mid, y: 100.0 },
-            ccw: false,
-        }),
-        PieceTrace::Without,
+        piece(
+            Vec2 {
+                x: mid + 10.0,
+                y: 100.0,
+            },
+            Vec2 {
+                x: mid - 10.0,
+                y: 100.0,
+            },
+            PieceArc::With(ProfileArc {
+                center: Vec2 { x: mid, y: 100.0 },
+                ccw: false,
+            }),
+        ),
         HERE,
     ));
     let s = add_straight(cut, mid - 10.0, 0.0, 100.0);
     let vector = 10000.0 - notch;
-    compare(b"  area", area, s.area, area);
-    compare(b"  area vector x", 0.0, s.area_vector.x, area);
-    compare(b"  area vector y", vector, s.area_vector.y, area);
+    compare(b"  area", area, s.surface.area, area);
+    compare(b"  area vector x", 0.0, s.surface.area_vector.x, area);
+    compare(b"  area vector y", vector, s.surface.area_vector.y, area);
     compare(
         b"  six times the volume",
         2.0 * (50.0 * area - HERE.y * vector),
-        s.six_v,
+        s.surface.six_v,
         1e6,
     );
 }
@@ -338,28 +378,15 @@ fn cylinder_with_a_hole() {
         center: Vec2 { x: 10.0, y: 50.0 },
         ccw: false,
     });
-    let all = sums_of(revolutions::add_piece(
-        both,
-        c,
-        sheet(),
-        p,
-        p,
-        hole,
-        PieceTrace::Without,
-        HERE,
-    ));
-    compare(b"  area", PI * 9900.0, all.area, PI * 9900.0);
+    let all = sums_of(revolutions::add_piece(both, c, piece(p, p, hole), HERE));
+    compare(b"  area", PI * 9900.0, all.surface.area, PI * 9900.0);
 }
 
 // The wall over a straight piece, from 40 to 60 from the axis.
 fn wall(to: Vec2) -> Integrals {
     sums_of(cut_walls::with_cut_wall(
-        nothing(),
-        sheet(),
-        Vec2 { x: 0.0, y: 0.0 },
-        to,
-        PieceArc::Without,
-        PieceTrace::Without,
+        Integrals::NOTHING,
+        piece(Vec2 { x: 0.0, y: 0.0 }, to, PieceArc::Without),
         40.0,
         60.0,
         HERE,
@@ -370,16 +397,31 @@ fn wall(to: Vec2) -> Integrals {
 fn straight_walls() {
     say(b"walls of straight cuts, along the axis and a quarter turn about it\n");
     let s = wall(Vec2 { x: 0.0, y: 100.0 });
-    compare(b"  area", 2000.0, s.area, 2000.0);
-    compare(b"  area vector y", -2000.0, s.area_vector.y, 2000.0);
-    compare(b"  six times the volume", -12000.0, s.six_v, 12000.0);
+    compare(b"  area", 2000.0, s.surface.area, 2000.0);
+    compare(b"  area vector y", -2000.0, s.surface.area_vector.y, 2000.0);
+    compare(
+        b"  six times the volume",
+        -12000.0,
+        s.surface.six_v,
+        12000.0,
+    );
     let s = wall(Vec2 {
         x: 50.0 * (0.5 * PI),
         y: 0.0,
     });
-    compare(b"  area", PI * 500.0, s.area, 2000.0);
-    compare(b"  area vector z", PI * 500.0, s.area_vector.z, 2000.0);
-    compare(b"  six times the volume", PI * -11000.0, s.six_v, 40000.0);
+    compare(b"  area", PI * 500.0, s.surface.area, 2000.0);
+    compare(
+        b"  area vector z",
+        PI * 500.0,
+        s.surface.area_vector.z,
+        2000.0,
+    );
+    compare(
+        b"  six times the volume",
+        PI * -11000.0,
+        s.surface.six_v,
+        40000.0,
+    );
 }
 
 fn main() {

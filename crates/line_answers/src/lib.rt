@@ -67,10 +67,10 @@ pub fn is_box(line: &[u8], k: usize, b: Bounds) -> bool {
 }
 
 fn is_sums(line: &[u8], k: usize, s: Integrals) -> bool {
-    is_number(line, k, s.six_v)
-        & is_vec3(line, wrapping_add_usize(k, 1), s.moment)
-        & is_number(line, wrapping_add_usize(k, 4), s.area)
-        & is_vec3(line, wrapping_add_usize(k, 5), s.area_vector)
+    is_number(line, k, s.surface.six_v)
+        & is_vec3(line, wrapping_add_usize(k, 1), s.surface.moment)
+        & is_number(line, wrapping_add_usize(k, 4), s.surface.area)
+        & is_vec3(line, wrapping_add_usize(k, 5), s.surface.area_vector)
 }
 
 // So many patterns are 0: those that a record's tags do not use.

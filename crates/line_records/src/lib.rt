@@ -5,6 +5,7 @@ use boxes::Bounds;
 use cones::Cone;
 use developments::Development;
 use integrals::Integrals;
+use integrals::SurfaceIntegrals;
 use meets::Meet;
 use meets::Turn;
 use motions::Rigid;
@@ -76,10 +77,12 @@ pub fn cone(line: &[u8], k: usize, convex: bool) -> Cone {
 
 pub fn sums(line: &[u8], k: usize) -> Integrals {
     Integrals {
-        six_v: number(line, k),
-        moment: vec3(line, wrapping_add_usize(k, 1)),
-        area: number(line, wrapping_add_usize(k, 4)),
-        area_vector: vec3(line, wrapping_add_usize(k, 5)),
+        surface: SurfaceIntegrals {
+            six_v: number(line, k),
+            moment: vec3(line, wrapping_add_usize(k, 1)),
+            area: number(line, wrapping_add_usize(k, 4)),
+            area_vector: vec3(line, wrapping_add_usize(k, 5)),
+        },
     }
 }
 

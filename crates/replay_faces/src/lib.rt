@@ -36,18 +36,10 @@ fn with_arc(line: &[u8]) -> Added {
 }
 
 fn with_piece(line: &[u8]) -> Added {
-    let p = piece(line, 11, 37);
-    let d = p.dev;
-    let bow = p.arc;
-    let path = p.trace;
     revolutions::add_piece(
         sums(line, 39),
         cone(line, 0, true),
-        d,
-        p.from,
-        p.to,
-        bow,
-        path,
+        piece(line, 11, 37),
         vec3(line, 8),
     )
 }
@@ -61,17 +53,9 @@ fn closed(line: &[u8]) -> Added {
 }
 
 fn wall(line: &[u8]) -> Added {
-    let p = piece(line, 0, 26);
-    let d = p.dev;
-    let bow = p.arc;
-    let path = p.trace;
     cut_walls::with_cut_wall(
         sums(line, 33),
-        d,
-        p.from,
-        p.to,
-        bow,
-        path,
+        piece(line, 0, 26),
         number(line, 28),
         number(line, 29),
         vec3(line, 30),

@@ -1,40 +1,13 @@
+use Rattle.c_arrays.specs.Records.{numberOf, after}
 use borrow.Author.Needs.{needs}
-use Rattle.c_arrays.specs.Records.{numberOf, after, over}
 use Rattle.c_arrays.proofs.development_records.store_development.Statement.{statement}
 use Rattle.c_arrays.proofs.development_records.store_development.Tie as tie
 
 enum-known-m : tie.Need-enum-known-m
 enum-known-m c = search needs
 
-element-write-out : tie.Need-element-write-out
-element-write-out c = search needs
-
-element-write-out-2 : tie.Need-element-write-out-2
-element-write-out-2 c = search needs
-
-element-write-out-3 : tie.Need-element-write-out-3
-element-write-out-3 c = search needs
-
-element-write-out-4 : tie.Need-element-write-out-4
-element-write-out-4 c = search needs
-
-element-write-out-5 : tie.Need-element-write-out-5
-element-write-out-5 c = search needs
-
-element-write-out-6 : tie.Need-element-write-out-6
-element-write-out-6 c = search needs
-
-element-write-out-7 : tie.Need-element-write-out-7
-element-write-out-7 c = search needs
-
-element-write-out-8 : tie.Need-element-write-out-8
-element-write-out-8 c = search needs
-
-element-write-out-9 : tie.Need-element-write-out-9
-element-write-out-9 c = search needs
-
-element-write-out-10 : tie.Need-element-write-out-10
-element-write-out-10 c = search needs
+put-development-requires : tie.Need-put-development-requires
+put-development-requires c κs = search needs
 
 enum-known-m-2 : tie.Need-enum-known-m-2
 enum-known-m-2 c = search needs
@@ -43,29 +16,14 @@ cast-result : tie.Need-cast-result
 cast-result c = search needs
 
 returns : tie.Need-returns
-unfolding numberOf after over
-returns c = (simp (c .before .m .given .1), simp (c .before .m .given .1))
+unfolding numberOf after
+returns c = (simp (c .before .before .before .m .given .1), simp (c .put-development .ensures, c .before .before .before .m .given .1))
 
 returns-2 : tie.Need-returns-2
-unfolding numberOf after over
+unfolding numberOf after
 returns-2 c = (simp (c .before .m2 .given .1), simp (c .before .m2 .given .1))
 
 pub store-development-spec : {M : Type 1} → statement M
 store-development-spec =
     tie.close
-    (tie.spec
-    enum-known-m
-    element-write-out
-    element-write-out-2
-    element-write-out-3
-    element-write-out-4
-    element-write-out-5
-    element-write-out-6
-    element-write-out-7
-    element-write-out-8
-    element-write-out-9
-    element-write-out-10
-    enum-known-m-2
-    cast-result
-    returns
-    returns-2)
+    (tie.spec enum-known-m put-development-requires enum-known-m-2 cast-result returns returns-2)

@@ -23,7 +23,7 @@ store-sums-requires : tie.Need-store-sums-requires
 store-sums-requires c κs = search needs
 
 returns : tie.Need-returns
-returns c = simp (sym (c .before .before .before .before .before .before .before .before .before .before .before .is-piece .ensures) ∙ c .before .before .before .before .before .before .before .before .before .before .if1 .taken) (simp (c .before .before .with-cut-wall .ensures, c .before .before .before .before .before .before .sums-of .ensures, c .before .before .before .before .before .before .before .before .vec3-of .ensures, c .before .before .before .before .before .before .before .before .before .piece-of .ensures) at (c .store-sums .ensures))
+returns c = simp (sym (c .before .before .before .before .before .before .before .before .is-piece .ensures) ∙ c .before .before .before .before .before .before .before .if1 .taken) (simp (c .before .before .with-cut-wall .ensures, c .before .before .before .sums-of .ensures, c .before .before .before .before .before .vec3-of .ensures, c .before .before .before .before .before .before .piece-of .ensures) at (c .store-sums .ensures))
 
 returns-2 : tie.Need-returns-2
 unfolding numberOf after
