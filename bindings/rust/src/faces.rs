@@ -7,7 +7,8 @@ use crate::{Arc, Cone, Refusal, Rolled, Vec3};
 
 /// What is integrated over the faces of a body, measured from a point `o` that all calls share.
 /// Over all faces of a closed body, `six_v / 6` is its volume, `o + moment / (4 · six_v)` its
-/// centre of mass, and `area_vector` is 0.
+/// centre of mass, and `area_vector` is 0. A moment is soon above 1,048,576, which `Vec3`'s operators
+/// refuse: work the centre out in plain numbers, as the example `closed_body` does.
 #[derive(Clone, Copy, Debug, PartialEq, Default)]
 #[repr(C)]
 pub struct Integrals {
@@ -25,8 +26,9 @@ laid_out!(Integrals is 8: six_v at 0, moment at 1, area at 4, area_vector at 5);
 
 /// Adds to the sums of a plane face what lies between an arc from `u` to `v`, turning about `k`,
 /// and its chord: so much more than the polygon of the corners where the arc bulges out of the
-/// face, so much less where it bulges in. `n` is the face's normal, of length 1. The area of the
-/// sums is left as it is.
+/// face, so much less where it bulges in. `n` is the face's normal, of length 1, and `k` the axis
+/// that its boundary turns about on this arc, which runs as every boundary does (see [`Path`]). The
+/// area of the sums is left as it is.
 #[inline]
 pub fn segment(
     acc: &mut Integrals,
@@ -81,6 +83,12 @@ impl Frame {
 
 /// A curve in the boundary of a face on a surface of revolution, the way that the boundary runs.
 /// Straight edges along the surface add nothing and are left out.
+///
+/// **The boundary of a face runs with the face to its left, seen from outside the body**, where the
+/// normal points to the eye: counterclockwise round the whole, clockwise round a hole in it. So on a
+/// boss (`convex`) the rim that lies lower along the axis runs about it and the upper one against it,
+/// and in a bore the other way round; an edge is run one way by one of its two faces and the other
+/// way by the other.
 #[derive(Clone, Copy, Debug, PartialEq)]
 pub enum Path {
     /// An arc about the surface's axis, from one point to another; it turns about its own axis.
@@ -120,7 +128,8 @@ pub enum Path {
 /// ```
 ///
 /// It opens a [`Revolution`], adds the paths in their order and closes it. A refusal on the way
-/// leaves the sums as they were.
+/// leaves the sums as they were. A face whose boundary runs the wrong way (see [`Path`]) takes from
+/// the area and the volume what it should add.
 #[inline]
 pub fn revolution(
     acc: &mut Integrals,
@@ -196,6 +205,11 @@ impl Revolution {
 
 /// Adds to the sums the wall over the piece `w`, from `r0` to a greater `r1` from the axis of its
 /// development.
+///
+/// **The piece of a wall runs with the body to its right in the development**, `u` to the right and
+/// `v` up: the wall's normal, which is to the left, then points out of the body. So it runs as the
+/// boundary of the sheet's inner face does there, and against that of its outer face. The example
+/// `closed_body` has them all.
 #[inline]
 pub fn wall(acc: &mut Integrals, w: &Rolled, r0: f64, r1: f64, o: Vec3) -> Result<(), Refusal> {
     let (sums, o) = (acc.numbers_mut(), o.numbers());

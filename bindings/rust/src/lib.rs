@@ -28,10 +28,19 @@
 //!
 //! # The library
 //!
-//! The archive `libexports.a` is linked into the program; it runs on x86-64. The environment
-//! variable `JUNIPERREEF_LIBRARY` names one that is there already, by its full path. Without it, the
-//! crate's build runs `rt staticlib exports` in the repository that the crate stands in, which
-//! proves whatever changed since the last time.
+//! An archive is linked into the program; it is for Linux on x86-64. The crate's build takes the
+//! first of these:
+//!
+//! 1. the file that the environment variable `JUNIPERREEF_LIBRARY` names by its full path;
+//! 2. `target/staticlib/libexports.a` of the repository that the crate stands in, where no source of
+//!    the library is newer: `rt staticlib exports`, run there once, makes it;
+//! 3. `libjuniperreef.a` of the crate's own release that `scripts/install` put where `pkg-config`
+//!    finds it;
+//! 4. one that it proves and builds itself, where the Rattle kit is installed. That takes some 15
+//!    minutes on two cores, once: a cache (`$XDG_CACHE_HOME` or `~/.cache`, folder `juniperreef`)
+//!    keeps it for other profiles and target folders.
+//!
+//! An archive of another layout of numbers than this crate's does not link.
 //!
 //! # Without `std`
 //!
@@ -63,3 +72,8 @@ pub use pieces::Rolled;
 pub use refusal::Refusal;
 pub use surfaces::{Cone, Cylinder, Plane, Surface};
 pub use vectors::{Bounds, Rigid, Vec2, Vec3, unit};
+
+/// The example of the crate's README, as a test.
+#[cfg(doctest)]
+#[doc = include_str!("../README.md")]
+struct Readme;

@@ -37,7 +37,9 @@ pub enum Refusal {
     PieceOnCone = 7,
     /// 8: a finite angle above 1,048,576 in magnitude is due for a sine or cosine.
     AngleTooLarge = 8,
-    /// 9: a number that the result depends on is not finite.
+    /// 9: a number that the result depends on is not finite: of a direction of no length, a point
+    /// on its axis, a pipe that is missed, or one that is only touched, as by a branch as wide as
+    /// its main pipe.
     NotFinite = 9,
     /// 10: a wave turns more than 4,096 times, or a count of chords or pieces is above 65,535.
     CountTooLarge = 10,
@@ -58,7 +60,7 @@ impl Refusal {
         Self::CountTooLarge,
     ];
 
-    /// The refusal's number, as the library's papers and its C functions have it.
+    /// The refusal's number, which is also what the library's C functions answer.
     pub const fn number(self) -> u32 {
         self as u32
     }
@@ -103,7 +105,8 @@ impl Refusal {
             }
             Self::NotFinite => {
                 "a number that the result depends on is not finite: \
-                 look for a direction of no length, a point on its axis or a pipe that is missed"
+                 look for a direction of no length, a point on its axis, a pipe that is missed, \
+                 or a pipe that is only touched, as by a branch as wide as its main pipe"
             }
             Self::CountTooLarge => {
                 "a wave turns more than 4,096 times, or more than 65,535 chords or pieces are due: \

@@ -84,7 +84,8 @@ pub enum Surface {
     Cylinder(Cylinder),
     /// A circular cone.
     Cone(Cone),
-    /// The wall of a cut through a rolled sheet: the piece swept along the radius.
+    /// The wall of a cut through a rolled sheet: the piece swept along the radius. The piece runs
+    /// with the body to its right in the development (see [`wall`](crate::wall)).
     Wall(Rolled),
 }
 

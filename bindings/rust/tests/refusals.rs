@@ -1,9 +1,10 @@
 //! Every refusal once, and that it leaves boxes, rows and sums as they were.
 
 use std::error::Error;
+use std::f64::consts::FRAC_PI_2;
 
 use juniperreef::{
-    ARC_ROW, Arc, Bounds, Cone, Curve, Development, Integrals, Path, ProfileArc, Refusal,
+    ARC_ROW, Arc, Bounds, Cone, Curve, Development, Integrals, Meet, Path, ProfileArc, Refusal,
     Revolution, Rolled, Trace, Vec2, Vec3, Wave, per_turn, revolution, segment, unit, wall,
 };
 
@@ -106,6 +107,13 @@ fn refusal_8_angle_too_large() {
 fn refusal_9_not_finite() {
     assert_eq!(unit(Vec3::ZERO), Err(Refusal::NotFinite));
     assert_eq!(RIM.at(Vec3::ZERO, 1.0), Err(Refusal::NotFinite));
+    // An equal tee: the branch touches the main pipe at a quarter turn, where its cut has a corner.
+    let origin = Vec3::new(0.0, 0.0, 20.0);
+    let main = Meet { origin, axis: X, radius: 10.0, own: 1.0, turn: None };
+    assert!(main.point(FRAC_PI_2, 9.0).is_ok());
+    let why = main.point(FRAC_PI_2, 10.0).unwrap_err();
+    assert_eq!(why, Refusal::NotFinite);
+    assert!(why.to_string().contains("only touched"), "{why}");
 }
 
 #[test]

@@ -1,5 +1,5 @@
-//! The cases that document 01 works out by hand, through the crate. Those of the program that
-//! prints a box are run by `scripts/try_samples`.
+//! Cases worked out by hand, through the crate. Those of the program that prints a box are run by
+//! `scripts/try_samples`.
 
 use std::f64::consts::{FRAC_PI_2, PI, TAU};
 
