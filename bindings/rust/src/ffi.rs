@@ -369,14 +369,6 @@ pub fn part<const N: usize>(numbers: &[f64], k: usize) -> [f64; N] {
     core::array::from_fn(|i| numbers[k + i])
 }
 
-/// Puts numbers into a longer row from the k-th place on, in one go. The library reads a vector as
-/// two numbers and one, and a processor that finds these in two of its last writes waits for both:
-/// so what is put into a row goes there vector by vector.
-#[inline(always)]
-pub fn put<const N: usize, const M: usize>(row: &mut [f64; M], k: usize, numbers: &[f64; N]) {
-    row[k..k + N].copy_from_slice(numbers);
-}
-
 /// Lets a record cross as it is: its fields stand where the numbers of its array do, from the first
 /// on. `RECORD is COUNT` is all numbers, and an array can become one; `RECORD begins COUNT` has a
 /// flag or more behind its numbers. What is said is checked as the crate is compiled.

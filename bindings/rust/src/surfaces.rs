@@ -1,6 +1,6 @@
 //! Surfaces of faces.
 
-use crate::ffi::{self, laid_out, part, put};
+use crate::ffi::{self, laid_out, part};
 use crate::{Refusal, Rigid, Rolled, Vec3};
 
 /// A plane. Its normal points out of the body and may have any length but 0.
@@ -15,7 +15,6 @@ pub struct Plane {
 
 /// A circular cylinder.
 #[derive(Clone, Copy, Debug, PartialEq)]
-#[repr(C)]
 pub struct Cylinder {
     /// A point of its axis.
     pub origin: Vec3,
@@ -44,7 +43,6 @@ pub struct Cone {
 }
 
 laid_out!(Plane is 6: origin at 0, normal at 3);
-laid_out!(Cylinder begins 7: origin at 0, axis at 3, radius at 6);
 laid_out!(Cone begins 8: origin at 0, axis at 3, radius at 6, slope at 7);
 
 impl From<Cylinder> for Cone {
@@ -87,6 +85,14 @@ pub enum Surface {
     /// The wall of a cut through a rolled sheet: the piece swept along the radius. The piece runs
     /// with the body to its right in the development (see [`wall`](crate::wall)).
     Wall(Rolled),
+}
+
+/// Puts numbers into a surface's row from the k-th place on, in one go. The library reads a vector of
+/// a surface as two numbers and one, and a processor that finds those in two of its last writes waits
+/// for both: so a surface goes into its row vector by vector.
+#[inline(always)]
+fn put<const N: usize>(row: &mut [f64; 26], k: usize, numbers: &[f64; N]) {
+    row[k..k + N].copy_from_slice(numbers);
 }
 
 /// What the library takes beside a surface's numbers.

@@ -11,6 +11,8 @@ use integrals::Outcome;
 use integrals::settle;
 use pieces::Rolled;
 use pieces::parts::are_both;
+use pieces::parts::is_arc_within;
+use pieces::parts::is_trace_within;
 use vectors::Vec2;
 use vectors::Vec3;
 use vectors::is_within2;
@@ -18,11 +20,17 @@ use vectors::is_within3;
 
 pub mod formula;
 
-// Every number handed in but for the sums.
+// Every number handed in but for the sums; the piece part by part, as a call that takes it by value
+// copies it.
 fn is_wall_within(p: Rolled, r0: f64, r1: f64, o: Vec3) -> bool
     ensures { λ r. ⌜ r ≡ wallWithin p r0 r1 o ⌝ }
 {
-    p.is_within_limit() & (is_within2(Vec2 { x: r0, y: r1 }) & is_within3(o))
+    let d = p.dev;
+    let a = p.arc;
+    let t = p.trace;
+    (d.is_within_limit()
+        & (is_within2(p.from) & (is_within2(p.to) & (is_arc_within(a) & is_trace_within(t)))))
+        & (is_within2(Vec2 { x: r0, y: r1 }) & is_within3(o))
 }
 
 // The number of the test that fails first; 0 is none.
