@@ -37,8 +37,16 @@ fn calls(e: &Entry, each: u64) -> u64 {
     if numbers <= 180 { each } else { (each * 90 / numbers).max(2) }
 }
 
-/// `each` calls of each class of each entry. A port in Rattle knows no unknown tag, so these are
-/// left out; none is 99.
+/// How a line has an answer: the two that are no refusals have two digits there.
+fn listed(answer: u32) -> u32 {
+    match answer {
+        UNKNOWN => 98,
+        ABSENT => 99,
+        refusal => refusal,
+    }
+}
+
+/// `each` calls of each class of each entry.
 pub fn replay(entries: &[&Entry], each: u64, seed: u64) -> bool {
     for (k, e) in entries.iter().enumerate().filter(|(_, e)| e.replayed) {
         for (class, draw) in e.classes {
@@ -57,11 +65,10 @@ pub fn replay(entries: &[&Entry], each: u64, seed: u64) -> bool {
                 }
                 let gives = if refusal == 0 { given(e, &out) } else { 0 };
                 // Few long rows: they make the list long and say no more.
-                if refusal == UNKNOWN || (gives > 40 && place % 8 != 0) {
+                if gives > 40 && place % 8 != 0 {
                     continue;
                 }
-                let number = if refusal == ABSENT { 99 } else { refusal };
-                let mut fields = vec![format!("{:02} {number:02}", k + 1)];
+                let mut fields = vec![format!("{:02} {:02}", k + 1, listed(refusal))];
                 fields.extend(input.iter().enumerate().map(|(k, x)| format!("{:016x}", taken_field(e, k, *x))));
                 fields.extend(out[..gives].iter().enumerate().map(|(k, x)| format!("{:016x}", given_field(e, k, *x))));
                 let line = fields.join(" ");

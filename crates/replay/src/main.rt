@@ -4,10 +4,20 @@ use bytes::scan::find;
 use std::num::wrapping_add_u32;
 use std::num::wrapping_add_u64;
 
-mod answers;
 mod calls;
-mod inputs;
 mod names;
+mod of_arcs;
+mod of_curves;
+mod of_developments;
+mod of_frames;
+mod of_motions;
+mod of_numbers;
+mod of_pieces;
+mod of_rows;
+mod of_sums;
+mod of_surfaces;
+mod of_traces;
+mod of_vectors;
 
 // How many calls came out how.
 struct Tally {
@@ -163,7 +173,18 @@ fn step(line: &[u8], p: Progress) -> Progress {
     q.with(tried(line, q.line, operation))
 }
 
-// One line read and run. What comes after the last newline ends the list.
+// The list is over where no byte is left. A line whose newline does not come within the buffer's bytes, or not at all, is told: what
+// follows is not run.
+fn last(left: usize, p: Progress) -> Progress {
+    if left > 0 {
+        say(b"no end in 4096 bytes of line ");
+        tell(wrapping_add_u64(p.line, 1));
+        say(b"\n");
+    }
+    p.ended()
+}
+
+// One line read and run.
 fn next(fd: i32, p: Progress) -> Progress {
     let mut buf = io::buffer();
     let got = libc::pread(fd, &mut buf, p.at as i64);
@@ -173,7 +194,7 @@ fn next(fd: i32, p: Progress) -> Progress {
         let q = p.past(end as u32 + 1);
         step(&buf[..end], q)
     } else {
-        p.ended()
+        last(n, p)
     }
 }
 

@@ -46,8 +46,8 @@ slice-aggregate-step c = simp length-take (omega arith)
 step-requires : tie.Need-step-requires
 step-requires c κs = search needs
 
-ended-requires : tie.Need-ended-requires
-ended-requires c κs = search needs
+last-requires : tie.Need-last-requires
+last-requires c κs = search needs
 
 returns : tie.Need-returns
 returns c = search needs
@@ -73,6 +73,6 @@ next-spec =
     array-share-prefix-buf
     slice-aggregate-step
     step-requires
-    ended-requires
+    last-requires
     returns
     returns-2)
