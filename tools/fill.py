@@ -12,15 +12,17 @@ It unfolds the crate's own unfoldable definitions that the function's `ensures` 
 The outcome of a test of two whole numbers goes in as each test of a definition that it settles (`a < b` as `ltb a b` and
 as `leb b a`), and what a call that gives a whole number ensures goes in from right to left: the definition's word
 becomes the number that the code tested.
-An entry that begins with `checked::handed::tried` answers by the laws of `passing`.
+An entry that begins with tests, by `checked::fails` and by functions named `tried…`, answers by the laws of `passing`.
 What a `simp` did not apply goes out again by `tools/trim.py CRATE`.
 The rules are the ruleset `rules` of each page …Laws.antt in the specs/ of the crate and of the crates that it needs, if there.
 A function with a loop keeps the holes of its invariant and measure. What does not close is left for you to edit.
 """
 import os, re, subprocess, sys
 
-# the function that gives the number of the first test of what was handed in that fails, 0 for none
-TRIED = 'checked::handed::tried'
+def tests_in(called, ensured):
+    """the calls that give the number of the test of what was handed in that fails first, 0 for none: `checked::earlier` joins them"""
+    tests = [p for p in called.values() if p == 'checked::fails' or p.split('::')[-1].startswith('tried') and ensured.get(p, ([], ''))[1] == 'u8']
+    return tests + ['checked::earlier'] if tests else []
 
 def read(path):
     return open(path, encoding='utf-8').read() if os.path.exists(path) else ''
@@ -117,13 +119,13 @@ def callees(lts):
 
 def facts(way, called, ensured, refusals, result_of=''):
     """the facts of the places, the latest first; without those on refusals alone where they are not asked for"""
-    out, tested = [], None
+    out, tested, tests = [], None, tests_in(called, ensured)
     def known(field):
         return ensured.get(called.get(field, ''), ([], ''))
     for at, (path, field, own) in enumerate(way):
         earlier = way[at + 1] if at + 1 < len(way) else ('', '', [])
         if own in (['taken'], ['left']):
-            if called.get(earlier[1]) == TRIED:
+            if called.get(earlier[1]) in tests:
                 out += [f'{path} .{field} .taken', 'passing-none'] if own[0] == 'taken' else []
             elif known(earlier[1])[1] == 'bool' and own.direct:
                 tested = earlier
@@ -141,8 +143,8 @@ def facts(way, called, ensured, refusals, result_of=''):
                 continue
             for i, clause in enumerate(clauses):
                 if refusals or '.refusal ' not in clause:
-                    numbers = ('u16', 'u32', 'u64', 'usize') + (() if result_of == 'bool' else ('bool',))
-                    back = '← ' if (result in numbers or called[field] == TRIED) and '≡' in clause else ''
+                    numbers = ('u16', 'u32', 'u64', 'usize') + (() if result_of == 'bool' or tests and result_of == 'u8' else ('bool',))
+                    back = '← ' if (result in numbers or called[field] in tests and result_of != 'u8') and '≡' in clause else ''
                     out.append(f'{back}{path} .{field} .ensures' + ' .1' * i + (' .0' if i < len(clauses) - 1 else ''))
     return out
 
@@ -213,12 +215,12 @@ def main():
                 if law:
                     known += ['first-assoc', 'zero-first']
                     used_laws.add(law)
-                elif TRIED not in called.values() and ('.refusal ' in clause or 'Due ' in clause or result == 'u8'):
+                elif not (tests_in(called, ensured) and ways[need][0][2] == ['left']) and ('.refusal ' in clause or 'Due ' in clause or result == 'u8'):
                     used_rules = True
                     known += [r for _, r in rules]
                 part = 'simp (' + ', '.join(known) + ')' if known else 'refl'
                 last = ways[need][0]
-                if last[2] == ['left'] and called.get(ways[need][1][1]) == TRIED:
+                if last[2] == ['left'] and called.get(ways[need][1][1]) in tests_in(called, ensured):
                     part += f' (sym (passing-some _ _ ({last[0]} .{last[1]} .left)))'
                 if law:
                     start = next(path for path, field, _ in ways[need] if field == 'args')
@@ -241,7 +243,7 @@ def main():
             uses.append('use Rattle.checked.specs.Laws.{settled-some, settled-none}' if crate != 'checked' else 'use Rattle.checked.specs.Laws.{settled-some, settled-none}')
         passing = [l for l in ('passing-none', 'passing-some') if l in text]
         if passing:
-            uses.append('use Rattle.checked.specs.HandedLaws.{' + ', '.join(passing) + '}')
+            uses.append('use Rattle.checked.specs.TestsLaws.{' + ', '.join(passing) + '}')
         tests = [l for l in ('lt-ltb', 'le-ltb', 'le-leb', 'lt-leb', 'eq-eqb', 'ne-eqb') if l + ' _ _' in text]
         if tests:
             uses.append('use borrow.Author.Tests.{' + ', '.join(tests) + '}')

@@ -9,7 +9,8 @@ use lib.IntN.{ℤ}
 use lib.Ieee.{Float, nan, inf, fin, binary64, unlike, div, lt, ofBits}
 use lib.Ieee.Bits.{is-false}
 use Rattle.checked.specs.Refusals.{OUT-OF-RANGE, NOT-FINITE, ANGLE-TOO-LARGE}
-use Rattle.checked.specs.Checked.{first, isFinite, nine, eight, within, due, refused, settled, unless, answered}
+use Rattle.checked.specs.Checked.{first, isFinite, nine, eight, within, due, refused, settled, answered}
+use Rattle.checked.specs.Tests.{fails, passing}
 use Rattle.checked.specs.Laws.{within-finite}
 use Rattle.order.specs.Order.{le-trans-of}
 use Rattle.float_bits.specs.Words.{fabs}
@@ -160,12 +161,12 @@ module _ (center axis : Vec3) (radius : Float) (from : Vec3) (t : Float) (C : T 
 
 -- `Arc::at`, for all arguments
 pub at-answer : (arc : Arc) (from : Vec3) (t : Float)
-    → atDue arc from t ≡ unless OUT-OF-RANGE (angleWithin (arc .center) (arc .axis) (arc .radius) from t) (cond (lt zero (offLength (arc .center) (arc .axis) from)) (due (atC (arc .center) (arc .axis) (arc .radius) from t .value)) (refused NOT-FINITE))
-unfolding atDue angleWithin circleWithin
+    → atDue arc from t ≡ passing (fails OUT-OF-RANGE (angleWithin (arc .center) (arc .axis) (arc .radius) from t)) (cond (lt zero (offLength (arc .center) (arc .axis) from)) (due (atC (arc .center) (arc .axis) (arc .radius) from t .value)) (refused NOT-FINITE))
+unfolding atDue angleWithin circleWithin fails passing
 at-answer arc from t = go (within3 (arc .center)) (within3 (arc .axis)) (within (arc .radius)) (within3 from) (within t) (answered-at (arc .center) (arc .axis) (arc .radius) from t)
   where
     go : (c a r p w : Bool) → (T c → T a → T r → T p → T w → answered (atC (arc .center) (arc .axis) (arc .radius) from t) ≡ cond (lt zero (offLength (arc .center) (arc .axis) from)) (due (atC (arc .center) (arc .axis) (arc .radius) from t .value)) (refused NOT-FINITE))
-        → unless OUT-OF-RANGE ((c && (a && r)) && (p && w)) (answered (atC (arc .center) (arc .axis) (arc .radius) from t)) ≡ unless OUT-OF-RANGE ((c && (a && r)) && (p && w)) (cond (lt zero (offLength (arc .center) (arc .axis) from)) (due (atC (arc .center) (arc .axis) (arc .radius) from t .value)) (refused NOT-FINITE))
+        → passing (fails OUT-OF-RANGE ((c && (a && r)) && (p && w))) (answered (atC (arc .center) (arc .axis) (arc .radius) from t)) ≡ passing (fails OUT-OF-RANGE ((c && (a && r)) && (p && w))) (cond (lt zero (offLength (arc .center) (arc .axis) from)) (due (atC (arc .center) (arc .axis) (arc .radius) from t .value)) (refused NOT-FINITE))
     go true true true true true h = h tt tt tt tt tt
     go true true true true false h = refl
     go true true true false w h = refl

@@ -17,7 +17,9 @@ use lib.Ieee.Bits.{is-true}
 use lib.Ieee.Order.{round-mono}
 use borrow.Author.Tests.{le-leb}
 use Rattle.checked.specs.Refusals.{OUT-OF-RANGE, BAD-TOLERANCE, NOT-FINITE}
-use Rattle.checked.specs.Checked.{Checked, first, isFinite, nine, within, given, Due, due, refused, settled, unless, answered}
+use Rattle.checked.specs.Checked.{Checked, first, isFinite, nine, within, given, Due, due, refused, settled, answered}
+use Rattle.checked.specs.Answers.{andThen}
+use Rattle.checked.specs.Tests.{fails, _or_, passing, chordTest}
 use Rattle.checked.specs.Laws.{first-zero, settled-none}
 use Rattle.checked.specs.Numbers.{zero, one, tau, float}
 use Rattle.order.specs.Order.{le-trans-of, lt-le}
@@ -29,7 +31,7 @@ use Rattle.vectors.specs.declared.Vec3.{Vec3}
 use Rattle.chord_counts.specs.Chords.{fewest, most, perTurnC}
 use Rattle.chord_counts.specs.Counts.{MOST, limitedC, countC}
 use Rattle.chord_counts.specs.Laws.{at-most}
-use Rattle.rows.specs.Rows.{upTo, fits, andThen, allRefusal, itemsDue}
+use Rattle.rows.specs.Rows.{upTo, fits, allRefusal, itemsDue}
 use Rattle.rows.specs.CirclesLaws.{rimAt-refusal}
 use Rattle.arcs.specs.Sweeps.{endsWithin, sweepC}
 use Rattle.arcs.specs.Spokes.{spokeC}
@@ -248,10 +250,9 @@ rimPoints arc from to chord = upTo (rimmed (arc .center) (arc .axis) (arc .radiu
 -- rounded; any other call gives the points
 pub inner-answer : (arc : Arc) (from to : Vec3) (chord : Float) (room : ℕ)
     → innerPointsDue arc from to chord room
-    ≡ unless OUT-OF-RANGE (chordWithin (arc .center) (arc .axis) (arc .radius) from to chord)
-    (unless BAD-TOLERANCE (not (lt chord zero))
-    (fits room (pointsOf arc from to chord) (cond (isNone (pointsOf arc from to chord) || lt zero (offLength (arc .center) (arc .axis) from)) (due (rimPoints arc from to chord)) (refused NOT-FINITE))))
-unfolding innerPointsDue chordWithin
+    ≡ passing (fails OUT-OF-RANGE (chordWithin (arc .center) (arc .axis) (arc .radius) from to chord) or chordTest chord)
+    (fits room (pointsOf arc from to chord) (cond (isNone (pointsOf arc from to chord) || lt zero (offLength (arc .center) (arc .axis) from)) (due (rimPoints arc from to chord)) (refused NOT-FINITE)))
+unfolding innerPointsDue chordWithin chordTest first fails passing
 inner-answer arc from to chord room = by (endsWithin (arc .center) (arc .axis) (arc .radius) from to) (within chord) (not (lt chord zero)) (λ h w p. after (handed-in (arc .center) (arc .axis) (arc .radius) from to h) w p)
   where
     after : Handed (arc .center) (arc .axis) (arc .radius) from to → T (within chord) → T (not (lt chord zero))
@@ -262,8 +263,8 @@ inner-answer arc from to chord room = by (endsWithin (arc .center) (arc .axis) (
         ∙ settled-is (arc .center) (arc .axis) (arc .radius) from to chord H w p room
 
     by : (h w p : Bool) → (T h → T w → T p → andThen (answered (cutC (arc .center) (arc .axis) (arc .radius) from to chord)) (λ cut. innersDue (arc .center) (arc .axis) (arc .radius) from cut room) ≡ fits room (pointsOf arc from to chord) (cond (isNone (pointsOf arc from to chord) || lt zero (offLength (arc .center) (arc .axis) from)) (due (rimPoints arc from to chord)) (refused NOT-FINITE)))
-        → unless OUT-OF-RANGE (h && w) (unless BAD-TOLERANCE p (andThen (answered (cutC (arc .center) (arc .axis) (arc .radius) from to chord)) (λ cut. innersDue (arc .center) (arc .axis) (arc .radius) from cut room)))
-        ≡ unless OUT-OF-RANGE (h && w) (unless BAD-TOLERANCE p (fits room (pointsOf arc from to chord) (cond (isNone (pointsOf arc from to chord) || lt zero (offLength (arc .center) (arc .axis) from)) (due (rimPoints arc from to chord)) (refused NOT-FINITE))))
+        → passing (fails OUT-OF-RANGE (h && w) or fails BAD-TOLERANCE p) (andThen (answered (cutC (arc .center) (arc .axis) (arc .radius) from to chord)) (λ cut. innersDue (arc .center) (arc .axis) (arc .radius) from cut room))
+        ≡ passing (fails OUT-OF-RANGE (h && w) or fails BAD-TOLERANCE p) (fits room (pointsOf arc from to chord) (cond (isNone (pointsOf arc from to chord) || lt zero (offLength (arc .center) (arc .axis) from)) (due (rimPoints arc from to chord)) (refused NOT-FINITE)))
     by true true true f = f tt tt tt
     by true true false f = refl
     by true false p f = refl

@@ -12,7 +12,8 @@ use borrow.Author.Tests.{eqb-false}
 use lib.Ieee.Fits.{sub-fits, down-pos, up-pos}
 use lib.Ieee.Bits.{is-false}
 use Rattle.checked.specs.Refusals.{OUT-OF-RANGE, BAD-TOLERANCE}
-use Rattle.checked.specs.Checked.{isFinite, nine, within, given, due, settled, unless, answered}
+use Rattle.checked.specs.Checked.{first, isFinite, nine, within, given, due, settled, answered}
+use Rattle.checked.specs.Tests.{fails as failed, _or_, passing, chordTest}
 use Rattle.checked.specs.Laws.{within-finite, first-zero, settled-none, rules as checked-rules}
 use Rattle.checked.specs.Numbers.{zero, one, pi}
 use Rattle.order.specs.Order.{Number, le-numbers, le-trans-of, not-lt-le, lt-le, fails}
@@ -150,12 +151,12 @@ module _ (radius chord : Float) (R : T (within radius)) (C : T (within chord)) (
 
 -- `per_turn`, for all arguments: a number out of range and a chord below 0 are refused; any other
 -- call gives a number from 12 to 64
-pub per-turn-answer : (radius chord : Float) → perTurnDue radius chord ≡ unless OUT-OF-RANGE (within radius && within chord) (unless BAD-TOLERANCE (not (lt chord zero)) (due (perTurnC radius chord .value)))
-unfolding perTurnDue
+pub per-turn-answer : (radius chord : Float) → perTurnDue radius chord ≡ passing (failed OUT-OF-RANGE (within radius && within chord) or chordTest chord) (due (perTurnC radius chord .value))
+unfolding perTurnDue chordTest first failed passing
 per-turn-answer radius chord = by (within radius) (within chord) (not (lt chord zero)) (per-turn-accepted radius chord)
   where
     by : (r c n : Bool) → (T r → T c → T n → perTurnC radius chord .refusal ≡ 0)
-        → unless OUT-OF-RANGE (r && c) (unless BAD-TOLERANCE n (answered (perTurnC radius chord))) ≡ unless OUT-OF-RANGE (r && c) (unless BAD-TOLERANCE n (due (perTurnC radius chord .value)))
+        → passing (failed OUT-OF-RANGE (r && c) or failed BAD-TOLERANCE n) (answered (perTurnC radius chord)) ≡ passing (failed OUT-OF-RANGE (r && c) or failed BAD-TOLERANCE n) (due (perTurnC radius chord .value))
     by true true true h = ap (λ (k : ℕ). settled k (perTurnC radius chord .value)) (h tt tt tt) ∙ settled-none (perTurnC radius chord .value)
     by true true false h = refl
     by true false n h = refl

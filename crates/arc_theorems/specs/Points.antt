@@ -9,7 +9,8 @@ use native.Mathlib.Omega.{arith}
 use lib.Dec.{T}
 use lib.Ieee.{Float, binary64, mul, div, neg, le, lt, eq, ofBits}
 use Rattle.checked.specs.Refusals.{OUT-OF-RANGE, BAD-BOX-OR-SUMS}
-use Rattle.checked.specs.Checked.{first, given, isFinite, nine, due, settled, unless}
+use Rattle.checked.specs.Checked.{first, given, isFinite, nine, due, settled}
+use Rattle.checked.specs.Tests.{fails, _or_, passing}
 use Rattle.checked.specs.Laws.{zero-first, settled-none}
 use Rattle.float_bits.specs.Words.{fabs}
 use Rattle.vectors.specs.declared.Vec3.{Vec3}
@@ -19,7 +20,7 @@ use Rattle.directions.specs.Directions.{lengthC, acrossC}
 use Rattle.arcs.specs.declared.Arc.{Arc}
 use Rattle.arcs.specs.Sweeps.{endsWithin, sweepFromC}
 use Rattle.boxes.specs.declared.Bounds.{Bounds}
-use Rattle.boxes.specs.Boxes.{free, passed, tried, widenedBy, boxCall}
+use Rattle.boxes.specs.Boxes.{free, widenedBy, boxCall}
 use Rattle.arcs.specs.Entries.{points, extendDue}
 use Rattle.arcs.specs.Extremes.{sideC, bothC, extremesC, pointsC}
 use Rattle.arcs.specs.ExtremesLaws.{both-refusal, extremes-refusal, points-refusal}
@@ -132,11 +133,11 @@ points-accepted center axis radius from to h = accepted center axis radius from 
 -- `Arc::extend_bounds`, for all arguments: numbers out of range are refused, and a box with a NaN;
 -- any other call widens the box
 pub extend-answer : (arc : Arc) (from to : Vec3) (b : Bounds)
-    → extendDue arc from to b ≡ unless OUT-OF-RANGE (endsWithin (arc .center) (arc .axis) (arc .radius) from to) (unless BAD-BOX-OR-SUMS (free b) (due (widenedBy b (points arc from to .value))))
-unfolding extendDue boxCall
+    → extendDue arc from to b ≡ passing (fails OUT-OF-RANGE (endsWithin (arc .center) (arc .axis) (arc .radius) from to) or fails BAD-BOX-OR-SUMS (free b)) (due (widenedBy b (points arc from to .value)))
+unfolding extendDue boxCall first fails passing
 extend-answer arc from to b = go (endsWithin (arc .center) (arc .axis) (arc .radius) from to) (free b) (points-accepted (arc .center) (arc .axis) (arc .radius) from to)
   where
-    go : (e f : Bool) → (T e → points arc from to .refusal ≡ 0) → tried (unless OUT-OF-RANGE e passed) (unless BAD-BOX-OR-SUMS f (settled (first (points arc from to .refusal) 0) (widenedBy b (points arc from to .value)))) ≡ unless OUT-OF-RANGE e (unless BAD-BOX-OR-SUMS f (due (widenedBy b (points arc from to .value))))
+    go : (e f : Bool) → (T e → points arc from to .refusal ≡ 0) → passing (fails OUT-OF-RANGE e or fails BAD-BOX-OR-SUMS f) (settled (first (points arc from to .refusal) 0) (widenedBy b (points arc from to .value))) ≡ passing (fails OUT-OF-RANGE e or fails BAD-BOX-OR-SUMS f) (due (widenedBy b (points arc from to .value)))
     go true true h = ap (λ (r : ℕ). settled r (widenedBy b (points arc from to .value))) (ap (λ (r : ℕ). first r 0) (h tt) ∙ zero-first 0) ∙ settled-none (widenedBy b (points arc from to .value))
     go true false h = refl
     go false f h = refl

@@ -9,7 +9,8 @@ use lib.IntN.{pos}
 use lib.Ieee.{Float, nan, inf, fin, binary64, up, down, round, unlike, add, sub, mul, neg, le, lt, eq, fits, isNan, toBits, ofBits}
 use lib.Ieee.Fits.{add-fits, down-pos}
 use Rattle.checked.specs.Refusals.{OUT-OF-RANGE}
-use Rattle.checked.specs.Checked.{isFinite, within, due, settled, unless, answered}
+use Rattle.checked.specs.Checked.{isFinite, within, due, settled, answered}
+use Rattle.checked.specs.Tests.{fails, passing}
 use Rattle.checked.specs.Laws.{settled-none}
 use Rattle.float_bits.specs.Words.{sign, choose}
 use Rattle.checked.specs.Numbers.{pi, tau}
@@ -122,11 +123,11 @@ module _ (arc : ProfileArc) (a : Vec2) (C : T (within2 (arc .center))) (A : T (w
   unfolding turnC apartC
   turn-same = ap (λ (t : Float). cond (arc .ccw) (aheadC t) (backC t) .value) no-turn ∙ sense (arc .ccw)
 
-pub turn-whole : (arc : ProfileArc) (a : Vec2) → turnDue arc a a ≡ unless OUT-OF-RANGE (within2 (arc .center) && (within2 a && within2 a)) (due (by-sense (arc .ccw)))
-unfolding turnDue
+pub turn-whole : (arc : ProfileArc) (a : Vec2) → turnDue arc a a ≡ passing (fails OUT-OF-RANGE (within2 (arc .center) && (within2 a && within2 a))) (due (by-sense (arc .ccw)))
+unfolding turnDue fails passing
 turn-whole arc a = go (within2 (arc .center)) (within2 a) (λ C A. λ i. settled (turn-accepted arc a a C A A i) (turn-same arc a C A i))
   where
-    go : (p q : Bool) → (T p → T q → answered (turnC arc a a) ≡ settled 0 (by-sense (arc .ccw))) → unless OUT-OF-RANGE (p && (q && q)) (answered (turnC arc a a)) ≡ unless OUT-OF-RANGE (p && (q && q)) (due (by-sense (arc .ccw)))
+    go : (p q : Bool) → (T p → T q → answered (turnC arc a a) ≡ settled 0 (by-sense (arc .ccw))) → passing (fails OUT-OF-RANGE (p && (q && q))) (answered (turnC arc a a)) ≡ passing (fails OUT-OF-RANGE (p && (q && q))) (due (by-sense (arc .ccw)))
     go true true h = h tt tt ∙ settled-none (by-sense (arc .ccw))
     go true false h = refl
     go false q h = refl
@@ -175,11 +176,11 @@ module _ (center axis : Vec3) (p : Vec3) (C : T (within3 center)) (A : T (within
   unfolding sweepC sweepFromC
   sweep-same = ap (λ (t : Float). aheadC t .value) flat-angle ∙ ahead-zero (flat .0)
 
-pub sweep-whole : (arc : Arc) (p : Vec3) → sweepDue arc p p ≡ unless OUT-OF-RANGE (endsWithin (arc .center) (arc .axis) (arc .radius) p p) (due tau)
-unfolding sweepDue endsWithin circleWithin
+pub sweep-whole : (arc : Arc) (p : Vec3) → sweepDue arc p p ≡ passing (fails OUT-OF-RANGE (endsWithin (arc .center) (arc .axis) (arc .radius) p p)) (due tau)
+unfolding sweepDue endsWithin circleWithin fails passing
 sweep-whole arc p = go (within3 (arc .center)) (within3 (arc .axis)) (within (arc .radius)) (within3 p) (λ C A P. λ i. settled (sweep-accepted (arc .center) (arc .axis) p p C A P P i) (sweep-same (arc .center) (arc .axis) p C A P i))
   where
-    go : (c a r q : Bool) → (T c → T a → T q → answered (sweepC (arc .center) (arc .axis) p p) ≡ settled 0 tau) → unless OUT-OF-RANGE ((c && (a && r)) && (q && q)) (answered (sweepC (arc .center) (arc .axis) p p)) ≡ unless OUT-OF-RANGE ((c && (a && r)) && (q && q)) (due tau)
+    go : (c a r q : Bool) → (T c → T a → T q → answered (sweepC (arc .center) (arc .axis) p p) ≡ settled 0 tau) → passing (fails OUT-OF-RANGE ((c && (a && r)) && (q && q))) (answered (sweepC (arc .center) (arc .axis) p p)) ≡ passing (fails OUT-OF-RANGE ((c && (a && r)) && (q && q))) (due tau)
     go true true true true h = h tt tt tt ∙ settled-none tau
     go true true true false h = refl
     go true true false q h = refl

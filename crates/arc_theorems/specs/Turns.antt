@@ -10,6 +10,7 @@ use lib.Ieee.{Float, binary64, add, sub, mul, neg, le, lt, eq, fits, isNan, ofBi
 use lib.Ieee.Fits.{and-l, and-r, add-fits, sub-fits}
 use lib.Ieee.Bits.{is-true}
 use Rattle.checked.specs.Checked.{isFinite, nine, within, due, num, _⊕_, _⊖_}
+use Rattle.checked.specs.Tests.{fails, passing}
 use Rattle.checked.specs.Laws.{settled-none}
 use Rattle.order.specs.Order.{Number, le-numbers, le-trans-of, lt-le}
 use Rattle.checked.specs.Numbers.{zero, pi, tau}
@@ -189,7 +190,7 @@ turn-answer arc a b h =
     let ab = and-r (within2 (arc .center)) (within2 a && within2 b) h in
     let A = and-l (within2 a) (within2 b) ab in
     let B = and-r (within2 a) (within2 b) ab in
-    (unfold turnDue in simp (is-true (within2 (arc .center) && (within2 a && within2 b)) h, turn-accepted arc a b C A B, settled-none), turn-range arc a b C A B)
+    (unfold turnDue fails passing in simp (is-true (within2 (arc .center) && (within2 a && within2 b)) h, turn-accepted arc a b C A B, settled-none), turn-range arc a b C A B)
 
 -- every number of an arc and of its ends passes the test of what is handed in
 pub record Handed (c a : Vec3) (r : Float) (from to : Vec3) : Type 0 where
@@ -217,4 +218,4 @@ pub sweep-answer : (arc : Arc) (from to : Vec3) → T (endsWithin (arc .center) 
     → (sweepDue arc from to ≡ due (sweepC (arc .center) (arc .axis) from to .value)) × Turn true (sweepC (arc .center) (arc .axis) from to .value)
 sweep-answer arc from to h =
     let g = handed-in (arc .center) (arc .axis) (arc .radius) from to h in
-    (unfold sweepDue in simp (is-true (endsWithin (arc .center) (arc .axis) (arc .radius) from to) h, sweep-accepted (arc .center) (arc .axis) from to (g .center) (g .axis) (g .start) (g .end), settled-none), sweep-range (arc .center) (arc .axis) from to (g .center) (g .axis) (g .start) (g .end))
+    (unfold sweepDue fails passing in simp (is-true (endsWithin (arc .center) (arc .axis) (arc .radius) from to) h, sweep-accepted (arc .center) (arc .axis) from to (g .center) (g .axis) (g .start) (g .end), settled-none), sweep-range (arc .center) (arc .axis) from to (g .center) (g .axis) (g .start) (g .end))

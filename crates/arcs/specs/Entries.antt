@@ -1,16 +1,15 @@
 -- What the entries on arcs are due to answer: the numbers handed in are tried, then the formula is
 -- worked out.
 use Prim.Native.Nat.{ℕ}
-use mathlib.Core.Bool.{Bool, not}
 use mathlib.Core.List.{List}
-use lib.Ieee.{Float, lt}
-use Rattle.checked.specs.Refusals.{OUT-OF-RANGE, BAD-TOLERANCE}
-use Rattle.checked.specs.Checked.{Checked, first, _>>=_, given, Due, due, refused, answered, unless}
-use Rattle.checked.specs.Numbers.{zero}
+use lib.Ieee.{Float}
+use Rattle.checked.specs.Refusals.{OUT-OF-RANGE}
+use Rattle.checked.specs.Checked.{Checked, first, _>>=_, given, Due, due, refused, answered}
+use Rattle.checked.specs.Answers.{andThen}
+use Rattle.checked.specs.Tests.{fails, _or_, passing, chordTest}
 use Rattle.vectors.specs.declared.Vec3.{Vec3}
 use Rattle.boxes.specs.declared.Bounds.{Bounds}
-use Rattle.boxes.specs.Boxes.{boxCall, passed}
-use Rattle.rows.specs.Rows.{andThen}
+use Rattle.boxes.specs.Boxes.{boxCall}
 use Rattle.arcs.specs.Sweeps.{circleWithin, endsWithin, sweepC}
 use Rattle.arcs.specs.Spokes.{angleWithin, atC}
 use Rattle.arcs.specs.Extremes.{pointsC}
@@ -27,24 +26,24 @@ arcDue (answer.Refused n) = refused n
 
 -- `Arc::reversed`
 unfoldable pub reversedDue : Arc → Due Arc
-reversedDue arc = unless OUT-OF-RANGE (circleWithin (arc .center) (arc .axis) (arc .radius)) (answered (reversedC arc))
+reversedDue arc = passing (fails OUT-OF-RANGE (circleWithin (arc .center) (arc .axis) (arc .radius))) (answered (reversedC arc))
 
 -- `Arc::sweep`
 unfoldable pub sweepDue : Arc → Vec3 → Vec3 → Due Float
 sweepDue arc from to =
-    unless OUT-OF-RANGE (endsWithin (arc .center) (arc .axis) (arc .radius) from to)
+    passing (fails OUT-OF-RANGE (endsWithin (arc .center) (arc .axis) (arc .radius) from to))
     (answered (sweepC (arc .center) (arc .axis) from to))
 
 -- `Arc::at`
 unfoldable pub atDue : Arc → Vec3 → Float → Due Vec3
 atDue arc from t =
-    unless OUT-OF-RANGE (angleWithin (arc .center) (arc .axis) (arc .radius) from t)
+    passing (fails OUT-OF-RANGE (angleWithin (arc .center) (arc .axis) (arc .radius) from t))
     (answered (atC (arc .center) (arc .axis) (arc .radius) from t))
 
 -- ---- `Arc::extend_bounds`
--- the tests of what is handed in with the arc
-abbrev pub handed : Arc → Vec3 → Vec3 → Due Unit
-handed arc from to = unless OUT-OF-RANGE (endsWithin (arc .center) (arc .axis) (arc .radius) from to) passed
+-- the test of what is handed in with the arc
+abbrev pub handed : Arc → Vec3 → Vec3 → ℕ
+handed arc from to = fails OUT-OF-RANGE (endsWithin (arc .center) (arc .axis) (arc .radius) from to)
 
 -- the points that widen the box
 abbrev pub points : Arc → Vec3 → Vec3 → Checked (List Vec3)
@@ -56,6 +55,5 @@ extendDue arc from to b = boxCall (handed arc from to) (points arc from to) b
 -- `Arc::inner_points`, in a row of `room` numbers: the count comes before the row's length
 unfoldable pub innerPointsDue : Arc → Vec3 → Vec3 → Float → ℕ → Due (List Vec3)
 innerPointsDue arc from to chord room =
-    unless OUT-OF-RANGE (chordWithin (arc .center) (arc .axis) (arc .radius) from to chord)
-    (unless BAD-TOLERANCE (not (lt chord zero))
-    (andThen (answered (cutC (arc .center) (arc .axis) (arc .radius) from to chord)) (λ cut. innersDue (arc .center) (arc .axis) (arc .radius) from cut room)))
+    passing (fails OUT-OF-RANGE (chordWithin (arc .center) (arc .axis) (arc .radius) from to chord) or chordTest chord)
+    (andThen (answered (cutC (arc .center) (arc .axis) (arc .radius) from to chord)) (λ cut. innersDue (arc .center) (arc .axis) (arc .radius) from cut room))

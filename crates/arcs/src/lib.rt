@@ -2,10 +2,11 @@
 // and cuts, on the parts of an arc.
 ghost use mathlib.Core.Path.{_≡_};
 ghost use Rattle.checked.specs.Checked.{numberDue, settled};
+ghost use Rattle.checked.specs.Answers.{numberOf, Lent};
 ghost use Rattle.vectors.specs.Entries.{vectorDue};
 ghost use lib.ListN.{length};
-ghost use Rattle.boxes.specs.Boxes.{widenedDue, outcome, Lent};
-ghost use Rattle.rows.specs.Rows.{numberOf, partOf, Drawn};
+ghost use Rattle.boxes.specs.Boxes.{widenedDue, outcome};
+ghost use Rattle.rows.specs.Rows.{partOf, Drawn};
 ghost use Rattle.arcs.specs.Entries.{innerPointsDue, arcDue, reversedDue, sweepDue, atDue, extendDue};
 use crate::chords::chord_within;
 use crate::chords::cut_up;
@@ -18,9 +19,11 @@ use boxes::CheckedBounds;
 use boxes::Outcome;
 use boxes::Widened;
 use checked::BAD_BOX_OR_SUMS;
-use checked::BAD_TOLERANCE;
 use checked::Number;
 use checked::OUT_OF_RANGE;
+use checked::earlier;
+use checked::fails;
+use checked::tried_chord;
 use rows::Written;
 use vectors::Vec3;
 use vectors::Vector;
@@ -68,10 +71,14 @@ impl Arc {
     pub fn reversed(self) -> ArcAnswer
         ensures { λ r. ⌜ arcDue r ≡ reversedDue self ⌝ }
     {
-        if circle_within(self.center, self.axis, self.radius) {
+        let n = fails(
+            OUT_OF_RANGE,
+            circle_within(self.center, self.axis, self.radius),
+        );
+        if n == 0 {
             settle(formula::reversed(self))
         } else {
-            ArcAnswer::Refused(OUT_OF_RANGE)
+            ArcAnswer::Refused(n)
         }
     }
 
@@ -80,10 +87,14 @@ impl Arc {
     pub fn sweep(self, from: Vec3, to: Vec3) -> Number
         ensures { λ r. ⌜ numberDue r ≡ sweepDue self from to ⌝ }
     {
-        if ends_within(self.center, self.axis, self.radius, from, to) {
+        let n = fails(
+            OUT_OF_RANGE,
+            ends_within(self.center, self.axis, self.radius, from, to),
+        );
+        if n == 0 {
             checked::settle(sweep::sweep(self.center, self.axis, from, to))
         } else {
-            Number::Refused(OUT_OF_RANGE)
+            Number::Refused(n)
         }
     }
 
@@ -91,10 +102,14 @@ impl Arc {
     pub fn at(self, from: Vec3, t: f64) -> Vector
         ensures { λ r. ⌜ vectorDue r ≡ atDue self from t ⌝ }
     {
-        if angle_within(self.center, self.axis, self.radius, from, t) {
+        let n = fails(
+            OUT_OF_RANGE,
+            angle_within(self.center, self.axis, self.radius, from, t),
+        );
+        if n == 0 {
             vectors::settle(points::at(self.center, self.axis, self.radius, from, t))
         } else {
-            Vector::Refused(OUT_OF_RANGE)
+            Vector::Refused(n)
         }
     }
 
@@ -103,24 +118,25 @@ impl Arc {
     pub fn extended(self, from: Vec3, to: Vec3, bounds: Bounds) -> Widened
         ensures { λ r. ⌜ widenedDue r ≡ extendDue self from to bounds ⌝ }
     {
-        if ends_within(self.center, self.axis, self.radius, from, to) {
-            if bounds.is_free() {
-                boxes::settle(extremes::extended(
-                    self.center,
-                    self.axis,
-                    self.radius,
-                    from,
-                    to,
-                    CheckedBounds {
-                        refusal: 0,
-                        value: bounds,
-                    },
-                ))
-            } else {
-                Widened::Refused(BAD_BOX_OR_SUMS)
-            }
+        let n = fails(
+            OUT_OF_RANGE,
+            ends_within(self.center, self.axis, self.radius, from, to),
+        );
+        let n = earlier(n, fails(BAD_BOX_OR_SUMS, bounds.is_free()));
+        if n == 0 {
+            boxes::settle(extremes::extended(
+                self.center,
+                self.axis,
+                self.radius,
+                from,
+                to,
+                CheckedBounds {
+                    refusal: 0,
+                    value: bounds,
+                },
+            ))
         } else {
-            Widened::Refused(OUT_OF_RANGE)
+            Widened::Refused(n)
         }
     }
 
@@ -147,28 +163,26 @@ impl Arc {
     pub fn write_inner_points(self, from: Vec3, to: Vec3, chord: f64, row: &mut [f64]) -> Written
         ensures { λ r. ⌜ Drawn (innerPointsDue self from to chord (length (now (row .entry)))) (now (row .entry)) (now (row .exit)) (r .refusal) (r .points) ⌝ }
     {
-        if chord_within(self.center, self.axis, self.radius, from, to, chord) {
-            if chord < 0.0 {
-                Written {
-                    refusal: BAD_TOLERANCE,
-                    points: 0,
-                }
+        let n = fails(
+            OUT_OF_RANGE,
+            chord_within(self.center, self.axis, self.radius, from, to, chord),
+        );
+        let n = earlier(n, tried_chord(chord));
+        if n == 0 {
+            let c = cut_up(self.center, self.axis, self.radius, from, to, chord);
+            let k = c.value;
+            let r = c.refusal;
+            if r == 0 {
+                write_points(self.center, self.axis, self.radius, from, k, &mut *row)
             } else {
-                let c = cut_up(self.center, self.axis, self.radius, from, to, chord);
-                let k = c.value;
-                let r = c.refusal;
-                if r == 0 {
-                    write_points(self.center, self.axis, self.radius, from, k, &mut *row)
-                } else {
-                    Written {
-                        refusal: r,
-                        points: 0,
-                    }
+                Written {
+                    refusal: r,
+                    points: 0,
                 }
             }
         } else {
             Written {
-                refusal: OUT_OF_RANGE,
+                refusal: n,
                 points: 0,
             }
         }

@@ -1,23 +1,25 @@
 -- Where any list of box calls leaves the box. An edge is an arc or a piece with its two ends, whichever entry widens by
 -- it; `run` makes calls of both entries as their contracts have it. Assumes nothing.
 use mathlib.Core.Path.{_≡_, refl, sym, _∙_, ap, ap₂, subst}
-use mathlib.Core.Bool.{Bool, true, false}
+use Prim.Native.Nat.{ℕ}
+use mathlib.Core.Bool.{_&&_}
 use mathlib.Core.List.{List, [], _∷_, map}
 use lib.Dec.{T}
-use Rattle.checked.specs.Refusals.{OUT-OF-RANGE, BAD-TOLERANCE}
-use Rattle.checked.specs.Checked.{Checked, Due, unless}
-use Rattle.checked.specs.Handed.{fails, passing}
+use Rattle.checked.specs.Refusals.{OUT-OF-RANGE}
+use Rattle.checked.specs.Checked.{Checked, Due}
+use Rattle.checked.specs.Answers.{after}
+use Rattle.checked.specs.TestsLaws.{fails-both}
+use Rattle.vectors.specs.Vectors.{within3}
 use Rattle.vectors.specs.declared.Vec3.{Vec3}
 use Rattle.boxes.specs.declared.Bounds.{Bounds}
-use Rattle.boxes.specs.Boxes.{free, empty, passed, Sound, boxCall, after}
+use Rattle.boxes.specs.Boxes.{free, empty, Sound, boxCall}
 use Rattle.boxes.specs.Demand3 as Demand3
 use Rattle.boxes.specs.Demand3.{answer, Met, SameAccepted, SameBox}
 use Rattle.arcs.specs.declared.Arc.{Arc}
-use Rattle.arcs.specs.Sweeps.{endsWithin}
+use Rattle.arcs.specs.Sweeps.{circleWithin, endsWithin}
 use Rattle.arcs.specs.Entries as arcs
 use Rattle.curves.specs.declared.Curve.{Curve}
 use Rattle.curves.specs.declared.Curve.the-variants as curve
-use Rattle.curves.specs.Parts.{handedArc}
 use Rattle.curves.specs.Curves.{pointsC}
 use Rattle.curves.specs.Entries as curves
 use Rattle.curves.specs.Laws as curves-laws
@@ -56,8 +58,8 @@ unfoldable pub answers : Bounds → List Call → List (Due Unit)
 answers b [] = []
 answers b (c ∷ cs) = answer (callDue c b) ∷ answers (after b (callDue c b)) cs
 
--- the tests of an edge that is handed in
-abbrev pub handed : Edge → Due Unit
+-- the number of the test that an edge fails first
+abbrev pub handed : Edge → ℕ
 handed e = curves.handed (e .curve) (e .from) (e .to)
 
 -- its ends and extreme points, as they are worked out
@@ -79,14 +81,9 @@ pub record CallsMet (b : Bounds) (cs : List Call) : Type 0 where
 abbrev pub call : Bounds → Edge → Due Bounds
 call = Demand3.call handed points
 
-tests-alike : (t : Bool) → passing (fails OUT-OF-RANGE t (fails BAD-TOLERANCE true 0)) passed ≡ unless OUT-OF-RANGE t passed
-unfolding passing
-tests-alike true = refl
-tests-alike false = refl
-
 pub one-edge : (c : Call) (b : Bounds) → call b (edge c) ≡ callDue c b
-unfolding arcs.extendDue curves.extendDue curves.handed curves.tests handedArc pointsC endsWithin
-one-edge (ByArc arc from to) b = ap (λ (h : Due Unit). boxCall h (arcs.points arc from to) b) (tests-alike (endsWithin (arc .center) (arc .axis) (arc .radius) from to))
+unfolding arcs.extendDue curves.extendDue curves.handed curves.tests pointsC endsWithin
+one-edge (ByArc arc from to) b = ap (λ (h : ℕ). boxCall h (arcs.points arc from to) b) (fails-both OUT-OF-RANGE (within3 from && within3 to) (circleWithin (arc .center) (arc .axis) (arc .radius)))
 one-edge (ByCurve c from to) b = refl
 
 run-is : (b : Bounds) (cs : List Call) → run b cs ≡ Demand3.run handed points b (map edge cs)
@@ -105,7 +102,7 @@ edges-each : (cs : List Call) → map (λ e. answer (call empty e)) (map edge cs
 edges-each [] = refl
 edges-each (c ∷ cs) = ap₂ (λ (d : Due Bounds) (rest : List (Due Unit)). answer d ∷ rest) (one-edge c empty) (edges-each cs)
 
-sound : (e : Edge) → handed e ≡ passed → Sound (points e)
+sound : (e : Edge) → handed e ≡ 0 → Sound (points e)
 sound e h = curves-laws.points-sound (e .curve) (e .from) (e .to)
 
 -- every list of box calls, from every box free of NaN

@@ -9,7 +9,9 @@ use Rattle.order.specs.Least.{least, greatest}
 use Rattle.vectors.specs.declared.Vec3.{Vec3}
 use Rattle.vectors.specs.Vectors.{isFinite3}
 use Rattle.checked.specs.Refusals.{BAD-BOX-OR-SUMS}
-use Rattle.checked.specs.Checked.{Checked, _>>=_, given, Due, due, refused, answered, unless}
+use Rattle.checked.specs.Checked.{Checked, _>>=_, given, Due, due, refused, answered}
+use Rattle.checked.specs.Answers.{numberOf, after}
+use Rattle.checked.specs.Tests.{fails, _or_, passing}
 use Rattle.boxes.specs.declared.Bounds.{Bounds}
 use Rattle.boxes.specs.declared.Outcome.{Outcome}
 use Rattle.boxes.specs.declared.Widened.{Widened}
@@ -79,41 +81,16 @@ abbrev pub widenedDue : Widened → Due Bounds
 widenedDue (widened-variants.Box b) = due b
 widenedDue (widened-variants.Refused n) = refused n
 
--- what was handed in passes
-abbrev pub passed : Due Unit
-passed = due tt
-
--- the refusal of what was handed in, else the rest
-abbrev pub tried : {A : Type 0} → Due Unit → Due A → Due A
-tried (due u) rest = rest
-tried (refused n) rest = refused n
-
--- A box call. handed: the tests of what was handed in with the edge, 1 to 3; points: its ends and extreme points, as they are worked out.
--- The tests come first, then that of the box; then the points are worked out, whatever the box, and widen it.
-unfoldable pub boxCall : Due Unit → Checked (List Vec3) → Bounds → Due Bounds
+-- A box call. handed: the number of the test that what was handed in with the edge fails first; points: its ends and extreme points, as they are
+-- worked out. The tests come first, then that of the box; then the points are worked out, whatever the box, and widen it.
+unfoldable pub boxCall : ℕ → Checked (List Vec3) → Bounds → Due Bounds
 boxCall handed points b =
-    tried handed
-    (unless BAD-BOX-OR-SUMS (free b)
+    passing (handed or fails BAD-BOX-OR-SUMS (free b))
     (answered
     (do
       ps ← points
-      given (widenedBy b ps))))
+      given (widenedBy b ps)))
 
--- ---- calls on a lent box
--- the box after a call: a refusal leaves it unchanged
-abbrev pub after : Bounds → Due Bounds → Bounds
-after b (due c) = c
-after b (refused n) = b
-
--- the number that a call answers; 0 is none
-abbrev pub numberOf : Due Bounds → ℕ
-numberOf (due c) = 0
-numberOf (refused n) = n
-
+-- what a call on a lent box leaves of it, and the number that it answers
 abbrev pub outcome : Bounds → Due Bounds → Outcome
 outcome b d = record { bounds = after b d; number = numberOf d }
-
--- what a call on a lent box answers and leaves, by what it is due on a box by value
-pub record Lent (call : Bounds → Due Bounds) (entry : Bounds) (answer : ℕ) (exit : Bounds) : Type 0 where
-  pub says : answer ≡ numberOf (call entry)
-  pub leaves : exit ≡ after entry (call entry)

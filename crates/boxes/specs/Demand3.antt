@@ -1,5 +1,5 @@
 -- Where any list of box calls leaves the box: `Met` is the claim, `all-lists` shows it of every list, and `same-box` follows.
--- It is stated of any kind of edge, given what is tried of an edge that is handed in (`handed`) and how its ends and extreme points are worked out
+-- It is stated of any kind of edge, given the number of the test that an edge handed in fails first (`handed`) and how its ends and extreme points are worked out
 -- (`points`). `boxCall` is the call, with which the contracts of the box calls in the code agree.
 use Prim.Native.Nat.{ℕ, zero, suc}
 use mathlib.Core.Path.{_≡_, refl, sym, _∙_, ap, ap₂, subst}
@@ -11,7 +11,9 @@ use lib.Ieee.{Float}
 use Rattle.order.specs.Extremes.{Least, Greatest, Same, Within, one-least, one-greatest}
 use Rattle.vectors.specs.declared.Vec3.{Vec3}
 use Rattle.checked.specs.Checked.{Checked, Due, due, refused, settled}
-use Rattle.boxes.specs.Boxes.{Axis, at, widenedBy, free, empty, tried, passed, boxCall, Sound, after}
+use Rattle.checked.specs.Answers.{after}
+use Rattle.checked.specs.Tests.{passing}
+use Rattle.boxes.specs.Boxes.{Axis, at, widenedBy, free, empty, boxCall, Sound}
 use Rattle.boxes.specs.Laws.{NumbersAll, empty-free, finite-numbers, widened-append, widened-low, widened-high, widened-free, on-free}
 use Rattle.boxes.specs.declared.Bounds.{Bounds}
 
@@ -27,7 +29,7 @@ isDue (due c) = true
 isDue (refused n) = false
 
 -- Edge: whatever a box call is handed, the box apart
-module _ {Edge : Type 0} (handed : Edge → Due Unit) (points : Edge → Checked (List Vec3)) where
+module _ {Edge : Type 0} (handed : Edge → ℕ) (points : Edge → Checked (List Vec3)) where
   -- a call with an edge
   abbrev pub call : Bounds → Edge → Due Bounds
   call b e = boxCall (handed e) (points e) b
@@ -76,34 +78,34 @@ pub record SameBox (b c : Bounds) : Type 0 where
 -- ================ the proof
 
 -- ---- what a call on a box free of NaN does, by what its edge is due on the empty box
-module _ (h : Due Unit) (c : Checked (List Vec3)) (b : Bounds) (F : T (free b)) where
+module _ (h : ℕ) (c : Checked (List Vec3)) (b : Bounds) (F : T (free b)) where
   same-answer : answer (boxCall h c b) ≡ answer (boxCall h c empty)
-  unfolding settled
+  unfolding settled passing
   same-answer = rw (on-free b h c F, on-free empty h c empty-free) (cases h (c .refusal))
     where
-      cases : (h : Due Unit) (r : ℕ) → answer (tried h (settled r (widenedBy b (c .value)))) ≡ answer (tried h (settled r (widenedBy empty (c .value))))
-      cases (due u) zero = refl
-      cases (due u) (suc r) = refl
-      cases (refused n) r = refl
+      cases : (h r : ℕ) → answer (passing h (settled r (widenedBy b (c .value)))) ≡ answer (passing h (settled r (widenedBy empty (c .value))))
+      cases zero zero = refl
+      cases zero (suc r) = refl
+      cases (suc h) r = refl
 
   after-is : after b (boxCall h c b) ≡ widenedBy b (cond (isDue (boxCall h c empty)) (c .value) [])
-  unfolding settled widenedBy
+  unfolding settled passing widenedBy
   after-is = rw (on-free b h c F, on-free empty h c empty-free) (cases h (c .refusal))
     where
-      cases : (h : Due Unit) (r : ℕ) → after b (tried h (settled r (widenedBy b (c .value)))) ≡ widenedBy b (cond (isDue (tried h (settled r (widenedBy empty (c .value))))) (c .value) [])
-      cases (due u) zero = refl
-      cases (due u) (suc r) = refl
-      cases (refused n) r = refl
+      cases : (h r : ℕ) → after b (passing h (settled r (widenedBy b (c .value)))) ≡ widenedBy b (cond (isDue (passing h (settled r (widenedBy empty (c .value))))) (c .value) [])
+      cases zero zero = refl
+      cases zero (suc r) = refl
+      cases (suc h) r = refl
 
 -- an accepted edge passed its tests, and its points met no refusal
-accepted-passed : (h : Due Unit) (c : Checked (List Vec3)) → T (isDue (boxCall h c empty)) → (h ≡ passed) × (c .refusal ≡ 0)
-unfolding settled
+accepted-passed : (h : ℕ) (c : Checked (List Vec3)) → T (isDue (boxCall h c empty)) → (h ≡ 0) × (c .refusal ≡ 0)
+unfolding settled passing
 accepted-passed h c t = cases h (c .refusal) (rw (on-free empty h c empty-free) at t)
   where
-    cases : (h : Due Unit) (r : ℕ) → T (isDue (tried h (settled r (widenedBy empty (c .value))))) → (h ≡ passed) × (r ≡ 0)
-    cases (due u) zero t = (refl, refl)
-    cases (due u) (suc r) t = absurd t
-    cases (refused n) r t = absurd t
+    cases : (h r : ℕ) → T (isDue (passing h (settled r (widenedBy empty (c .value))))) → (h ≡ 0) × (r ≡ 0)
+    cases zero zero t = (refl, refl)
+    cases zero (suc r) t = absurd t
+    cases (suc h) r t = absurd t
 
 -- ---- lists
 map-to : (k : Axis) (p : Vec3) (ps : List Vec3) → List·Memᴰ p ps → List·Memᴰ (at k p) (map (at k) ps)
@@ -121,8 +123,8 @@ cons-within : (a : Float) (xs ys : List Float) → Within xs ys → Within (a �
 cons-within a xs ys w x m = ⊎-elim (λ (e : x ≡ a). List·Memᴰ·head e) (λ (n : List·Memᴰ x xs). List·Memᴰ·tail (w x n)) (List·Memᴰ·cases-cons m)
 
 -- ---- the theorem. sound: the points of an edge that passes its tests are finite where working them out meets no refusal
-module _ {Edge : Type 0} (handed : Edge → Due Unit) (points : Edge → Checked (List Vec3))
-    (sound : (e : Edge) → handed e ≡ passed → Sound (points e))
+module _ {Edge : Type 0} (handed : Edge → ℕ) (points : Edge → Checked (List Vec3))
+    (sound : (e : Edge) → handed e ≡ 0 → Sound (points e))
   where
     -- the points that an edge's call takes: none where it is refused
     abbrev taken : Edge → List Vec3

@@ -15,9 +15,11 @@ use Rattle.order.specs.Extremes.{Least, Greatest, fold, AllNumbers, lowest, hig
 use Rattle.vectors.specs.declared.Vec3.{Vec3}
 use Rattle.vectors.specs.Vectors.{isFinite3, nines}
 use Rattle.checked.specs.Refusals.{BAD-BOX-OR-SUMS, NOT-FINITE}
-use Rattle.checked.specs.Checked.{Checked, Due, due, refused, settled, isFinite, first, given, unless}
-use Rattle.checked.specs.Laws.{first-zero, first-none}
-use Rattle.boxes.specs.Boxes.{Axis, X, Y, Z, at, lesser, greater, widened, widenedBy, numbers, free, empty, passed, tried, boxCall, _⧺_, AllFinite, Sound}
+use Rattle.checked.specs.Checked.{Checked, Due, due, refused, settled, isFinite, first, given}
+use Rattle.checked.specs.Tests.{fails, _or_, passing}
+use Rattle.checked.specs.TestsLaws.{passing-some, fails-none, fails-some}
+use Rattle.checked.specs.Laws.{first-zero, zero-first, first-some, first-none}
+use Rattle.boxes.specs.Boxes.{Axis, X, Y, Z, at, lesser, greater, widened, widenedBy, numbers, free, empty, boxCall, _⧺_, AllFinite, Sound}
 use Rattle.boxes.specs.declared.Bounds.{Bounds}
 
 -- first the points of one list, then those of the other
@@ -119,31 +121,23 @@ module _ (b : Bounds) (ps : List Vec3) (F : T (free b)) (all : NumbersAll ps) wh
 
 -- ---- box calls
 -- written out, for rewriting
-pub call-is : (h : Due Unit) (c : Checked (List Vec3)) (b : Bounds) → boxCall h c b ≡ tried h (unless BAD-BOX-OR-SUMS (free b) (settled (c .refusal) (widenedBy b (c .value))))
+pub call-is : (h : ℕ) (c : Checked (List Vec3)) (b : Bounds) → boxCall h c b ≡ passing (h or fails BAD-BOX-OR-SUMS (free b)) (settled (c .refusal) (widenedBy b (c .value)))
 unfolding boxCall
 call-is h c b = simp first-zero
 
 pub ruleset rules = (call-is, _⧺_, widened-append, widened-none, widened-cons)
 
 -- on a box free of NaN
-pub on-free : (b : Bounds) (h : Due Unit) (c : Checked (List Vec3)) → T (free b) → boxCall h c b ≡ tried h (settled (c .refusal) (widenedBy b (c .value)))
-on-free b h c F = simp (call-is, is-true (free b) F)
+pub on-free : (b : Bounds) (h : ℕ) (c : Checked (List Vec3)) → T (free b) → boxCall h c b ≡ passing h (settled (c .refusal) (widenedBy b (c .value)))
+on-free b h c F = simp (call-is, is-true (free b) F, fails-none, first-zero)
 
 -- whatever the box, what was handed in with the edge is refused first; then a box that holds a NaN
-pub on-handed : (b : Bounds) (n : ℕ) (c : Checked (List Vec3)) → boxCall (refused n) c b ≡ refused n
-on-handed b n c = call-is (refused n) c b
+pub on-handed : (b : Bounds) (h : ℕ) (c : Checked (List Vec3)) → (h ≡ 0 → ⊥) → boxCall h c b ≡ refused h
+on-handed b h c some = rw (call-is h c b, first-some h (fails BAD-BOX-OR-SUMS (free b)) some) (passing-some h _ some)
 
-pub on-nan : (b : Bounds) (c : Checked (List Vec3)) → free b ≡ false → boxCall passed c b ≡ refused BAD-BOX-OR-SUMS
-on-nan b c h = simp (call-is, h)
-
--- a test that what was handed in has passed, and the tests after it
-pub passes : (n : ℕ) (t : Bool) (rest : Due Unit) → unless n t rest ≡ passed → T t × (rest ≡ passed)
-passes n true rest h = (tt, h)
-passes n false rest h = absurd (subst (λ (d : Due Unit). T (isPassed d)) (sym h) tt)
-  where
-    isPassed : Due Unit → Bool
-    isPassed (due u) = true
-    isPassed (refused n) = false
+pub on-nan : (b : Bounds) (c : Checked (List Vec3)) → free b ≡ false → boxCall 0 c b ≡ refused BAD-BOX-OR-SUMS
+unfolding passing
+on-nan b c h = simp (call-is, h, fails-some, zero-first)
 
 -- ---- computations whose points are finite where no refusal is met
 pub nines-finite : (p : Vec3) → nines p ≡ 0 → T (isFinite3 p)

@@ -10,6 +10,7 @@ use Rattle.profile_arcs.specs.declared.ProfileArc.{ProfileArc}
 use Rattle.arcs.specs.declared.Arc.{Arc}
 use Rattle.boxes.specs.declared.Bounds.{Bounds}
 use Rattle.checked.specs.Checked.{Due}
+use Rattle.checked.specs.Answers.{numberOf}
 use Rattle.vectors.specs.declared.Vec3.{Vec3}
 use Rattle.rows.specs.Rows as Rows
 use Rattle.c_arrays.specs.Records.{vec2, vec3At}
@@ -48,4 +49,4 @@ ofBounds b = b .low .x ∷ b .low .y ∷ b .low .z ∷ b .high .x ∷ b .high .y
 
 -- how many numbers were written to a row; as before where that is refused
 unfoldable pub afterCount : List ℕ → Due (List Vec3) → List ℕ
-afterCount l d = cond (eqb (Rows.numberOf d) 0) (set l 0 (length (Rows.partOf d))) l
+afterCount l d = cond (eqb (numberOf d) 0) (set l 0 (length (Rows.partOf d))) l

@@ -6,7 +6,8 @@ use lib.ListN.{length, set}
 use borrow.Author.Tests.{eq-eqb, ne-eqb}
 use Rattle.checked.specs.Checked.{Due}
 use Rattle.vectors.specs.declared.Vec3.{Vec3}
-use Rattle.rows.specs.Rows.{numberOf, partOf}
+use Rattle.checked.specs.Answers.{numberOf}
+use Rattle.rows.specs.Rows.{partOf}
 use Rattle.c_arrays.specs.ArcRecords.{afterCount}
 
 pub counted : (l : List ℕ) (d : Due (List Vec3)) (r points : ℕ) → r ≡ numberOf d → r ≡ 0 → 3 * points ≡ length (partOf d) → set l 0 (3 * points) ≡ afterCount l d

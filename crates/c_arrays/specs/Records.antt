@@ -1,10 +1,10 @@
 -- How records and answers pass to a caller in another language: as arrays of numbers.
 use Prim.Native.Nat.{ℕ, suc, _+_}
-use mathlib.Core.Bool.{Bool}
+use mathlib.Core.Bool.{Bool, cond}
 use mathlib.Core.List.{List, [], _∷_}
 use lib.ListN.{getD, set}
 use lib.Ieee.{Float, nan}
-use Rattle.checked.specs.Checked.{Due, due, refused, settled, unless}
+use Rattle.checked.specs.Checked.{Due, due, refused, settled}
 use Rattle.libm.specs.declared.sincos.Sines.{Sines}
 use Rattle.libm.specs.declared.sincos.CheckedSines.{CheckedSines}
 use Rattle.vectors.specs.declared.Vec2.{Vec2}
@@ -39,11 +39,6 @@ abbrev pub ofSines : Sines → List Float
 ofSines a = a .sin ∷ a .cos ∷ []
 
 -- ---- answers
--- the refusal's number, 0 where there is none
-unfoldable pub numberOf : {A : Type 0} → Due A → ℕ
-numberOf (due a) = 0
-numberOf (refused n) = n
-
 -- the array with a list of numbers from its place k on
 unfoldable pub over : {A : Type 0} → List A → ℕ → List A → List A
 over l k [] = l
@@ -64,7 +59,7 @@ NONE = 255
 
 -- what is due by a tag
 abbrev pub tagDue : {A : Type 0} → Bool → Due A → Due A
-tagDue known d = unless UNKNOWN-TAG known d
+tagDue known d = cond known d (refused UNKNOWN-TAG)
 
 -- a sine and a cosine, or their refusal
 abbrev pub sinesDue : CheckedSines → Due Sines

@@ -1,7 +1,8 @@
 // Records as arrays of numbers, and answers stored where they are due: curves.
 ghost use mathlib.Core.Path.{_≡_};
 ghost use Rattle.curves.specs.Entries.{curveDue, curveArcDue};
-ghost use Rattle.c_arrays.specs.Records.{numberOf, over, after};
+ghost use Rattle.checked.specs.Answers.{numberOf};
+ghost use Rattle.c_arrays.specs.Records.{over, after};
 ghost use Rattle.c_arrays.specs.ArcRecords.{ofArc};
 ghost use Rattle.c_arrays.specs.TraceRecords.{someDue};
 ghost use Rattle.c_shapes.specs.Stores.{stored};

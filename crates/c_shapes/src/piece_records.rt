@@ -1,7 +1,8 @@
 // Answers stored where they are due: those of pieces of a development.
 ghost use mathlib.Core.Path.{_≡_};
 ghost use Rattle.pieces.specs.Entries.{placeDue, flatDue, pieceDue, measuredDue, countDue, boxDue};
-ghost use Rattle.c_arrays.specs.Records.{alone, ofVec2, numberOf, after};
+ghost use Rattle.checked.specs.Answers.{numberOf};
+ghost use Rattle.c_arrays.specs.Records.{alone, ofVec2, after};
 ghost use Rattle.piece_arrays.specs.Arrays.{tagsOf, withPiece};
 ghost use Rattle.c_shapes.specs.PieceRecords.{ofPlace, ofMeasure, ofBox};
 ghost use Rattle.c_shapes.specs.Stores.{stored};

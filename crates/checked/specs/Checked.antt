@@ -108,10 +108,6 @@ settled (suc r) a = refused (suc r)
 abbrev pub answered : {A : Type 0} → Checked A → Due A
 answered c = settled (c .refusal) (c .value)
 
--- the refusal n where a test fails, else the rest
-abbrev pub unless : {A : Type 0} → ℕ → Bool → Due A → Due A
-unless n holds rest = cond holds rest (refused n)
-
 -- what the code's answer says
 abbrev pub numberDue : Number → Due Float
 numberDue (number.Value x) = due x

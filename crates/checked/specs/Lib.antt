@@ -1,8 +1,6 @@
+pub mod Answers
 pub mod Checked
 pub mod Examples
-pub mod FaceTestsLaws
-pub mod Handed
-pub mod HandedLaws
 pub mod Laws
 pub mod Lists
 pub mod Loops
@@ -12,3 +10,4 @@ pub mod PatternLaws
 pub mod Patterns
 pub mod Refusals
 pub mod Tests
+pub mod TestsLaws

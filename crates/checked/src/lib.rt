@@ -2,9 +2,8 @@
 ghost use mathlib.Core.Path.{_≡_};
 ghost use Rattle.checked.specs.Checked.{isFinite, nine, first, within, settled, numberDue};
 ghost use Rattle.checked.specs.Patterns as Patterns;
+ghost use Rattle.checked.specs.Tests.{fails, neutralTest, chordTest};
 
-pub mod face_tests;
-pub mod handed;
 pub mod loops;
 
 // ---- by the drawing
@@ -85,6 +84,27 @@ pub fn earlier(r: u8, s: u8) -> u8
     ensures { λ a. ⌜ a ≡ first r s ⌝ }
 {
     if r == 0 { s } else { r }
+}
+
+// The number of a test that does not hold; 0 is none.
+pub fn fails(number: u8, holds: bool) -> u8
+    ensures { λ r. ⌜ r ≡ fails number holds ⌝ }
+{
+    if holds { 0 } else { number }
+}
+
+// A neutral radius is above 0.
+pub fn tried_neutral(n: f64) -> u8
+    ensures { λ r. ⌜ r ≡ neutralTest n ⌝ }
+{
+    fails(NEUTRAL_NOT_POSITIVE, 0.0 < n)
+}
+
+// A chord is not below 0.
+pub fn tried_chord(chord: f64) -> u8
+    ensures { λ r. ⌜ r ≡ chordTest chord ⌝ }
+{
+    fails(BAD_TOLERANCE, !(chord < 0.0))
 }
 
 // The refusal of a number that the result depends on.

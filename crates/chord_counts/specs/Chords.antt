@@ -1,8 +1,9 @@
 -- How many chords a circle is drawn with.
 use mathlib.Core.Bool.{Bool, not, cond, _&&_}
 use lib.Ieee.{Float, binary64, div, lt, ofBits}
-use Rattle.checked.specs.Refusals.{OUT-OF-RANGE, BAD-TOLERANCE}
-use Rattle.checked.specs.Checked.{Checked, first, _>>=_, given, num, within, _⊖_, _⊘_, Due, answered, unless}
+use Rattle.checked.specs.Refusals.{OUT-OF-RANGE}
+use Rattle.checked.specs.Checked.{Checked, first, _>>=_, given, num, within, _⊖_, _⊘_, Due, answered}
+use Rattle.checked.specs.Tests.{fails, _or_, passing, chordTest}
 use Rattle.checked.specs.Numbers.{zero, one, pi}
 use Rattle.rounding.specs.Whole.{ceil}
 use Rattle.libm.specs.Computations.{acosC}
@@ -39,5 +40,5 @@ perTurnC radius chord = do
 -- `per_turn`, an entry: -0 is no chord below 0
 unfoldable pub perTurnDue : Float → Float → Due Float
 perTurnDue radius chord =
-    unless OUT-OF-RANGE (within radius && within chord)
-    (unless BAD-TOLERANCE (not (lt chord zero)) (answered (perTurnC radius chord)))
+    passing (fails OUT-OF-RANGE (within radius && within chord) or chordTest chord)
+    (answered (perTurnC radius chord))

@@ -4,11 +4,13 @@ ghost use mathlib.Core.Path.{_≡_};
 ghost use mathlib.Core.Bool.{_&&_};
 ghost use Rattle.checked.specs.Checked.{numberDue, within};
 ghost use Rattle.chord_counts.specs.Chords.{perTurnDue};
-use checked::BAD_TOLERANCE;
 use checked::Number;
 use checked::OUT_OF_RANGE;
+use checked::earlier;
+use checked::fails;
 use checked::is_within;
 use checked::settle;
+use checked::tried_chord;
 
 pub mod counts;
 pub mod formula;
@@ -23,13 +25,11 @@ fn are_within(radius: f64, chord: f64) -> bool
 pub fn per_turn(radius: f64, chord: f64) -> Number
     ensures { λ r. ⌜ numberDue r ≡ perTurnDue radius chord ⌝ }
 {
-    if are_within(radius, chord) {
-        if chord < 0.0 {
-            Number::Refused(BAD_TOLERANCE)
-        } else {
-            settle(formula::per_turn(radius, chord))
-        }
+    let t = fails(OUT_OF_RANGE, are_within(radius, chord));
+    let t = earlier(t, tried_chord(chord));
+    if t == 0 {
+        settle(formula::per_turn(radius, chord))
     } else {
-        Number::Refused(OUT_OF_RANGE)
+        Number::Refused(t)
     }
 }

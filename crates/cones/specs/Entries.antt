@@ -3,7 +3,8 @@
 use mathlib.Core.Bool.{Bool, _&&_}
 use lib.Ieee.{Float}
 use Rattle.checked.specs.Refusals.{OUT-OF-RANGE}
-use Rattle.checked.specs.Checked.{within, Due, due, refused, answered, unless}
+use Rattle.checked.specs.Checked.{within, Due, due, refused, answered}
+use Rattle.checked.specs.Tests.{fails, passing}
 use Rattle.vectors.specs.declared.Vec3.{Vec3}
 use Rattle.vectors.specs.Vectors.{within3, space}
 use Rattle.cones.specs.declared.Cone.{Cone}
@@ -26,12 +27,12 @@ frameWithin f = within3 (f .axis) && (within3 (f .origin) && (within3 (f .e1) &&
 
 -- `frame`
 unfoldable pub frameDue : Cone → Due Frame
-frameDue c = unless OUT-OF-RANGE (coneWithin c) (answered (frameC c))
+frameDue c = passing (fails OUT-OF-RANGE (coneWithin c)) (answered (frameC c))
 
 -- `Frame::angle`
 unfoldable pub angleDue : Frame → Vec3 → Due Float
-angleDue f p = unless OUT-OF-RANGE (frameWithin f && within3 p) (answered (angleC f p))
+angleDue f p = passing (fails OUT-OF-RANGE (frameWithin f && within3 p)) (answered (angleC f p))
 
 -- `Frame::point`: an angle and two lengths are handed in
 unfoldable pub pointDue : Frame → Float → Float → Float → Due Vec3
-pointDue f theta z r = unless OUT-OF-RANGE (frameWithin f && within3 (space theta z r)) (answered (pointC f theta z r))
+pointDue f theta z r = passing (fails OUT-OF-RANGE (frameWithin f && within3 (space theta z r))) (answered (pointC f theta z r))

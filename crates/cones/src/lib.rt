@@ -9,6 +9,7 @@ ghost use Rattle.cones.specs.Frames.{frameC};
 ghost use Rattle.cones.specs.Entries.{frameAnswerDue, coneWithin, frameWithin, frameDue, angleDue, pointDue};
 use checked::Number;
 use checked::OUT_OF_RANGE;
+use checked::fails;
 use checked::is_within;
 use checked::note;
 use directions::formula::across;
@@ -97,10 +98,11 @@ impl Cone {
     pub fn own_frame(self) -> FrameAnswer
         ensures { λ r. ⌜ frameAnswerDue r ≡ frameDue self ⌝ }
     {
-        if self.is_within() {
+        let t = fails(OUT_OF_RANGE, self.is_within());
+        if t == 0 {
             answer(self)
         } else {
-            FrameAnswer::Refused(OUT_OF_RANGE)
+            FrameAnswer::Refused(t)
         }
     }
 }
@@ -119,10 +121,11 @@ impl Frame {
     pub fn angle(self, p: Vec3) -> Number
         ensures { λ r. ⌜ numberDue r ≡ angleDue self p ⌝ }
     {
-        if self.is_within_with(p) {
+        let t = fails(OUT_OF_RANGE, self.is_within_with(p));
+        if t == 0 {
             checked::settle(formula::angle(self, p))
         } else {
-            Number::Refused(OUT_OF_RANGE)
+            Number::Refused(t)
         }
     }
 
@@ -130,14 +133,18 @@ impl Frame {
     pub fn point(self, theta: f64, z: f64, r: f64) -> Vector
         ensures { λ a. ⌜ vectorDue a ≡ pointDue self theta z r ⌝ }
     {
-        if self.is_within_with(Vec3 {
-            x: theta,
-            y: z,
-            z: r,
-        }) {
+        let t = fails(
+            OUT_OF_RANGE,
+            self.is_within_with(Vec3 {
+                x: theta,
+                y: z,
+                z: r,
+            }),
+        );
+        if t == 0 {
             vectors::settle(formula::point(self, theta, z, r))
         } else {
-            Vector::Refused(OUT_OF_RANGE)
+            Vector::Refused(t)
         }
     }
 }

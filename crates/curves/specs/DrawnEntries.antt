@@ -1,14 +1,14 @@
 -- What drawing a curve to a lent row is due to answer.
 use Prim.Native.Nat.{ℕ}
-use mathlib.Core.Bool.{not, _&&_}
+use mathlib.Core.Bool.{_&&_}
 use mathlib.Core.List.{List}
-use lib.Ieee.{Float, lt}
+use lib.Ieee.{Float}
+use Rattle.checked.specs.Refusals.{OUT-OF-RANGE}
 use Rattle.checked.specs.Checked.{Checked, first, _>>=_, within, Due, answered}
-use Rattle.checked.specs.Numbers.{zero}
-use Rattle.checked.specs.Handed.{passing}
+use Rattle.checked.specs.Answers.{andThen}
+use Rattle.checked.specs.Tests.{fails, _or_, passing, chordTest}
 use Rattle.vectors.specs.declared.Vec3.{Vec3}
 use Rattle.vectors.specs.Vectors.{within3}
-use Rattle.rows.specs.Rows.{andThen}
 use Rattle.arcs.specs.Entries as arcs
 use Rattle.piece_lengths.specs.Counts.{chordsC}
 use Rattle.pieces.specs.Pieces.{runC}
@@ -39,7 +39,7 @@ ready w = record {
 -- the number of the test that fails first: both ends are tried too, though a piece does not read
 -- them; a chord of -0 is 0
 unfoldable pub tests : RolledAt → Vec3 → Vec3 → Float → ℕ
-tests w from to chord = pieces.tests (w .piece) (within (w .radius) && (within3 from && (within3 to && within chord))) (not (lt chord zero))
+tests w from to chord = fails OUT-OF-RANGE (within (w .radius) && (within3 from && (within3 to && within chord))) or pieces.tests (w .piece) or chordTest chord
 
 -- in a row of `room` numbers: the count comes before the row's length, which comes before the points
 unfoldable pub pieceDue : RolledAt → Vec3 → Vec3 → Float → ℕ → Due (List Vec3)

@@ -1,19 +1,20 @@
 -- What the entries on curves are due to answer.
 use Prim.Native.Nat.{ℕ}
-use mathlib.Core.Bool.{Bool, true, _&&_}
+use mathlib.Core.Bool.{_&&_}
 use mathlib.Core.List.{List}
+use Rattle.checked.specs.Refusals.{OUT-OF-RANGE}
 use Rattle.checked.specs.Checked.{Checked, within, Due, due, refused, answered}
-use Rattle.checked.specs.Handed.{passing}
+use Rattle.checked.specs.Tests.{fails, _or_, passing}
 use Rattle.traces.specs.Traces.{Optional, some, none}
 use Rattle.vectors.specs.declared.Vec3.{Vec3}
 use Rattle.vectors.specs.Vectors.{within3}
 use Rattle.motions.specs.declared.Rigid.{Rigid}
 use Rattle.motions.specs.Motions.{withinRigid}
 use Rattle.boxes.specs.declared.Bounds.{Bounds}
-use Rattle.boxes.specs.Boxes.{boxCall, passed}
+use Rattle.boxes.specs.Boxes.{boxCall}
+use Rattle.arcs.specs.Sweeps.{circleWithin}
 use Rattle.arcs.specs.declared.Arc.{Arc}
 use Rattle.pieces.specs.Entries as pieces
-use Rattle.curves.specs.Parts.{handedArc}
 use Rattle.curves.specs.declared.Curve.{Curve}
 use Rattle.curves.specs.declared.Curve.the-variants as curve
 use Rattle.curves.specs.declared.CurveAnswer.{CurveAnswer}
@@ -33,28 +34,28 @@ curveArcDue curve-arc.Nothing = due none
 curveArcDue (curve-arc.Refused n) = refused n
 
 -- ---- what is tried
--- the number of the test that fails first: of the curve, of the other numbers handed in, of a chord
-unfoldable pub tests : Curve → Bool → Bool → ℕ
-tests (curve.Arc a) others tolerable = handedArc a others tolerable
-tests (curve.Rolled w) others tolerable = pieces.tests (w .piece) (within (w .radius) && others) tolerable
+-- the number of the test that a curve fails first
+unfoldable pub tests : Curve → ℕ
+tests (curve.Arc a) = fails OUT-OF-RANGE (circleWithin (a .center) (a .axis) (a .radius))
+tests (curve.Rolled w) = fails OUT-OF-RANGE (within (w .radius)) or pieces.tests (w .piece)
 
 -- ---- what is due
 -- `Curve::reversed`
 unfoldable pub reversedDue : Curve → Due Curve
-reversedDue c = passing (tests c true true) (answered (reversedC c))
+reversedDue c = passing (tests c) (answered (reversedC c))
 
 -- `Curve::moved`
 unfoldable pub movedDue : Curve → Rigid → Due Curve
-movedDue c m = passing (tests c (withinRigid m) true) (answered (movedC c m))
+movedDue c m = passing (fails OUT-OF-RANGE (withinRigid m) or tests c) (answered (movedC c m))
 
 -- `Curve::arc`
 unfoldable pub arcDue : Curve → Due (Optional Arc)
-arcDue c = passing (tests c true true) (due (arcOf c))
+arcDue c = passing (tests c) (due (arcOf c))
 
 -- ---- `Curve::extend_bounds`
 -- the tests of what is handed in with the curve: of both ends too, though a piece does not read them
-unfoldable pub handed : Curve → Vec3 → Vec3 → Due Unit
-handed c from to = passing (tests c (within3 from && within3 to) true) passed
+unfoldable pub handed : Curve → Vec3 → Vec3 → ℕ
+handed c from to = fails OUT-OF-RANGE (within3 from && within3 to) or tests c
 
 unfoldable pub extendDue : Curve → Vec3 → Vec3 → Bounds → Due Bounds
 extendDue c from to b = boxCall (handed c from to) (pointsC c from to) b

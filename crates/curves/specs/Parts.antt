@@ -1,24 +1,15 @@
--- What a curve is made of: what is tried of an arc, an arc and a piece moved, a piece's points in space.
-use Prim.Native.Nat.{ℕ}
-use mathlib.Core.Bool.{Bool, _&&_}
+-- What a curve is made of: an arc and a piece moved, a piece's points in space.
 use mathlib.Core.List.{List}
 use lib.Ieee.{Float}
-use Rattle.checked.specs.Refusals.{OUT-OF-RANGE, BAD-TOLERANCE}
 use Rattle.checked.specs.Checked.{Checked, first, _>>=_, given}
-use Rattle.checked.specs.Handed.{fails}
 use Rattle.vectors.specs.declared.Vec3.{Vec3}
 use Rattle.motions.specs.declared.Rigid.{Rigid}
 use Rattle.motions.specs.Axes as axes
-use Rattle.arcs.specs.Sweeps.{circleWithin}
 use Rattle.arcs.specs.declared.Arc.{Arc}
 use Rattle.developments.specs.Developments as developments
 use Rattle.pieces.specs.declared.Rolled.{Rolled}
 use Rattle.pieces.specs.Pieces.{runC}
 use Rattle.piece_boxes.specs.Bounds as bounds
-
--- the number of the test that fails first: all numbers handed in are within the limit, the chord is one
-unfoldable pub handedArc : Arc → Bool → Bool → ℕ
-handedArc a others tolerable = fails OUT-OF-RANGE (circleWithin (a .center) (a .axis) (a .radius) && others) (fails BAD-TOLERANCE tolerable 0)
 
 -- the centre turned and shifted, the axis turned
 unfoldable pub movedArcC : Arc → Rigid → Checked Arc

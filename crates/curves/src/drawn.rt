@@ -2,12 +2,16 @@
 // are functions of a curve and no methods, since a method must stand in its type's crate.
 ghost use mathlib.Core.Path.{_≡_};
 ghost use lib.ListN.{length};
-ghost use Rattle.rows.specs.Rows.{numberOf, partOf, Drawn};
+ghost use Rattle.checked.specs.Answers.{numberOf};
+ghost use Rattle.rows.specs.Rows.{partOf, Drawn};
 ghost use Rattle.curves.specs.DrawnEntries.{chordsOf, ready, tests, pieceDue, innerPointsDue};
 use crate::Curve;
 use crate::RolledAt;
+use checked::OUT_OF_RANGE;
 use checked::earlier;
+use checked::fails;
 use checked::is_within;
+use checked::tried_chord;
 use piece_curves::space_points::Rolling;
 use piece_lengths::counts::chords_of;
 use piece_rows::write_points;
@@ -21,10 +25,12 @@ fn tried(w: RolledAt, from: Vec3, to: Vec3, chord: f64) -> u8
     ensures { λ r. ⌜ r ≡ tests w from to chord ⌝ }
 {
     let p = w.piece;
-    p.tried(
+    let n = fails(
+        OUT_OF_RANGE,
         is_within(w.radius) & (is_within3(from) & (is_within3(to) & is_within(chord))),
-        !(chord < 0.0),
-    )
+    );
+    let n = earlier(n, p.tried());
+    earlier(n, tried_chord(chord))
 }
 
 // A piece ready to be drawn, and into how many chords it is cut, with the refusal that was met

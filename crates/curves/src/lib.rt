@@ -1,17 +1,21 @@
 // A curve in space: what a program may call is here, the formulas that choose between arc and piece in `formula`.
 ghost use mathlib.Core.Path.{_≡_};
 ghost use Rattle.checked.specs.Checked.{settled};
-ghost use Rattle.boxes.specs.Boxes.{widenedDue, outcome, Lent};
+ghost use Rattle.checked.specs.Answers.{Lent};
+ghost use Rattle.boxes.specs.Boxes.{widenedDue, outcome};
 ghost use Rattle.curves.specs.Entries.{curveDue, curveArcDue, tests, reversedDue, movedDue, arcDue, extendDue};
-use crate::parts::tried_arc;
 use crate::parts::with_piece;
 use arcs::Arc;
 use arcs::extremes;
+use arcs::sweep::circle_within;
 use boxes::Bounds;
 use boxes::CheckedBounds;
 use boxes::Outcome;
 use boxes::Widened;
 use checked::BAD_BOX_OR_SUMS;
+use checked::OUT_OF_RANGE;
+use checked::earlier;
+use checked::fails;
 use checked::is_within;
 use motions::Rigid;
 use motions::is_within_rigid;
@@ -67,15 +71,15 @@ fn settle(c: CheckedCurve) -> CurveAnswer
 }
 
 impl Curve {
-    // The number of the test of what is handed in that fails first, 0 for none.
-    pub fn tried(self, others: bool, tolerable: bool) -> u8
-        ensures { λ r. ⌜ r ≡ tests self others tolerable ⌝ }
+    // The number of the test that the curve fails first, 0 for none.
+    pub fn tried(self) -> u8
+        ensures { λ r. ⌜ r ≡ tests self ⌝ }
     {
         match self {
-            Curve::Arc(a) => tried_arc(a, others, tolerable),
+            Curve::Arc(a) => fails(OUT_OF_RANGE, circle_within(a.center, a.axis, a.radius)),
             Curve::Rolled(w) => {
                 let p = w.piece;
-                p.tried(is_within(w.radius) & others, tolerable)
+                earlier(fails(OUT_OF_RANGE, is_within(w.radius)), p.tried())
             }
         }
     }
@@ -84,7 +88,7 @@ impl Curve {
     pub fn reversed(self) -> CurveAnswer
         ensures { λ r. ⌜ curveDue r ≡ reversedDue self ⌝ }
     {
-        let n = self.tried(true, true);
+        let n = self.tried();
         if n == 0 {
             settle(formula::reversed(self))
         } else {
@@ -96,7 +100,8 @@ impl Curve {
     pub fn moved(self, m: Rigid) -> CurveAnswer
         ensures { λ r. ⌜ curveDue r ≡ movedDue self m ⌝ }
     {
-        let n = self.tried(is_within_rigid(m), true);
+        let n = fails(OUT_OF_RANGE, is_within_rigid(m));
+        let n = earlier(n, self.tried());
         if n == 0 {
             settle(formula::moved(self, m))
         } else {
@@ -108,7 +113,7 @@ impl Curve {
     pub fn arc(self) -> CurveArc
         ensures { λ r. ⌜ curveArcDue r ≡ arcDue self ⌝ }
     {
-        let n = self.tried(true, true);
+        let n = self.tried();
         if n == 0 {
             match self {
                 Curve::Arc(a) => CurveArc::Value(a),
@@ -123,29 +128,27 @@ impl Curve {
     pub fn extended(self, from: Vec3, to: Vec3, bounds: Bounds) -> Widened
         ensures { λ r. ⌜ widenedDue r ≡ extendDue self from to bounds ⌝ }
     {
-        let n = self.tried(is_within3(from) & is_within3(to), true);
+        let n = fails(OUT_OF_RANGE, is_within3(from) & is_within3(to));
+        let n = earlier(n, self.tried());
+        let n = earlier(n, fails(BAD_BOX_OR_SUMS, bounds.is_free()));
         if n == 0 {
-            if bounds.is_free() {
-                let b = CheckedBounds {
-                    refusal: 0,
-                    value: bounds,
-                };
-                match self {
-                    Curve::Arc(a) => boxes::settle(extremes::extended(
-                        a.center,
-                        a.axis,
-                        a.radius,
-                        from,
-                        to,
-                        b,
-                    )),
-                    Curve::Rolled(w) => {
-                        let p = w.piece;
-                        boxes::settle(with_piece(p, w.radius, b))
-                    }
+            let b = CheckedBounds {
+                refusal: 0,
+                value: bounds,
+            };
+            match self {
+                Curve::Arc(a) => boxes::settle(extremes::extended(
+                    a.center,
+                    a.axis,
+                    a.radius,
+                    from,
+                    to,
+                    b,
+                )),
+                Curve::Rolled(w) => {
+                    let p = w.piece;
+                    boxes::settle(with_piece(p, w.radius, b))
                 }
-            } else {
-                Widened::Refused(BAD_BOX_OR_SUMS)
             }
         } else {
             Widened::Refused(n)

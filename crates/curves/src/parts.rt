@@ -1,14 +1,11 @@
-// What a curve is made of, an arc or a piece: what is tried of an arc, both moved, a piece's part of a box. On numbers of any size.
+// What a curve is made of, an arc or a piece: both moved, a piece's part of a box. On numbers of any size.
 ghost use mathlib.Core.Path.{_≡_};
 ghost use Rattle.checked.specs.Checked.{first};
 ghost use Rattle.boxes.specs.Boxes.{widenedBy};
-ghost use Rattle.curves.specs.Parts.{handedArc, movedArcC, movedPieceC, pieceC};
+ghost use Rattle.curves.specs.Parts.{movedArcC, movedPieceC, pieceC};
 use arcs::Arc;
 use arcs::CheckedArc;
-use arcs::sweep::circle_within;
 use boxes::CheckedBounds;
-use checked::BAD_TOLERANCE;
-use checked::OUT_OF_RANGE;
 use checked::earlier;
 use developments::moved_by;
 use motions::Rigid;
@@ -21,18 +18,6 @@ use pieces::formula::run;
 pub struct CheckedPiece {
     pub value: Rolled,
     pub refusal: u8,
-}
-
-// The number of the test that an arc fails first, 0 for none. others: the other numbers handed in are within the limit; tolerable: the
-// chord, where there is one, is one.
-pub fn tried_arc(a: Arc, others: bool, tolerable: bool) -> u8
-    ensures { λ r. ⌜ r ≡ handedArc a others tolerable ⌝ }
-{
-    if circle_within(a.center, a.axis, a.radius) & others {
-        if tolerable { 0 } else { BAD_TOLERANCE }
-    } else {
-        OUT_OF_RANGE
-    }
 }
 
 pub fn moved_arc(a: Arc, m: Rigid) -> CheckedArc

@@ -1,11 +1,11 @@
 -- The whole thousandths of a number, worked out from its exact value.
 use Prim.Native.Nat.{ℕ, zero, suc, _+_, _*_, _/_, _^_}
-use mathlib.Core.Bool.{Bool, true, false}
+use mathlib.Core.Bool.{Bool, true, false, cond}
 use lib.IntN.{ℤ, pos, negsuc}
 use lib.Dec.{leb}
 use lib.Ieee.{Float, nan, inf, fin, up, down}
 use Rattle.checked.specs.Refusals.{COUNT-TOO-LARGE}
-use Rattle.checked.specs.Checked.{Due, due, refused, settled, unless}
+use Rattle.checked.specs.Checked.{Due, due, refused, settled}
 use Rattle.decimals.specs.declared.CheckedWhole.{CheckedWhole}
 
 -- the whole number nearest to n / d; a half goes up
@@ -24,7 +24,7 @@ most = 10 ^ 9
 
 -- a whole number of thousandths, refused where it is above the most
 abbrev pub counted : Bool → ℕ → Due ℤ
-counted s size = unless COUNT-TOO-LARGE (leb size most) (due (signed s size))
+counted s size = cond (leb size most) (due (signed s size)) (refused COUNT-TOO-LARGE)
 
 -- The thousandths of m * 2 ^ e, which is m * up e / down e: nearest, a half away from zero. An infinity or a NaN has too many.
 unfoldable pub thousandths : Float → Due ℤ

@@ -1,8 +1,9 @@
 -- The development of a cylinder, and what its entries are due to answer.
 use mathlib.Core.Bool.{Bool, _&&_}
 use lib.Ieee.{Float}
+use Rattle.checked.specs.Refusals.{OUT-OF-RANGE}
 use Rattle.checked.specs.Checked.{Checked, first, _>>=_, given, within, Due, due, refused, answered}
-use Rattle.checked.specs.Handed.{handed, passing}
+use Rattle.checked.specs.Tests.{fails, _or_, passing, neutralTest}
 use Rattle.motions.specs.declared.Rigid.{Rigid}
 use Rattle.motions.specs.Motions.{withinRigid, applyC, applyVectorC}
 use Rattle.vectors.specs.declared.Vec2.{Vec2}
@@ -40,20 +41,20 @@ developmentWithin d = within3 (d .origin) && (within3 (d .axis) && (within3 (d .
 -- ---- what is due
 -- `Development::radial`
 unfoldable pub radialDue : Development → Float → Due Vec3
-radialDue d u = passing (handed (developmentWithin d && within u) (d .neutral)) (answered (radialC (d .axis) (d .start) (d .neutral) u))
+radialDue d u = passing (fails OUT-OF-RANGE (developmentWithin d && within u) or neutralTest (d .neutral)) (answered (radialC (d .axis) (d .start) (d .neutral) u))
 
 -- `Development::point`
 unfoldable pub pointDue : Development → Vec2 → Float → Due Vec3
-pointDue d p r = passing (handed (developmentWithin d && (within2 p && within r)) (d .neutral)) (answered (pointC (d .origin) (d .axis) (d .start) (d .neutral) p r))
+pointDue d p r = passing (fails OUT-OF-RANGE (developmentWithin d && (within2 p && within r)) or neutralTest (d .neutral)) (answered (pointC (d .origin) (d .axis) (d .start) (d .neutral) p r))
 
 -- `Development::along`
 unfoldable pub alongDue : Development → Vec2 → Vec2 → Float → Due Vec3
-alongDue d p v r = passing (handed (developmentWithin d && (within2 p && (within2 v && within r))) (d .neutral)) (answered (alongC (d .axis) (d .start) (d .neutral) p v r))
+alongDue d p v r = passing (fails OUT-OF-RANGE (developmentWithin d && (within2 p && (within2 v && within r))) or neutralTest (d .neutral)) (answered (alongC (d .axis) (d .start) (d .neutral) p v r))
 
 -- `Development::unroll`
 unfoldable pub unrollDue : Development → Vec3 → Float → Due Unrolled
-unrollDue d q near = passing (handed (developmentWithin d && (within3 q && within near)) (d .neutral)) (answered (unrollC (d .origin) (d .axis) (d .start) (d .neutral) q near))
+unrollDue d q near = passing (fails OUT-OF-RANGE (developmentWithin d && (within3 q && within near)) or neutralTest (d .neutral)) (answered (unrollC (d .origin) (d .axis) (d .start) (d .neutral) q near))
 
 -- `Development::moved`
 unfoldable pub movedDue : Development → Rigid → Due Development
-movedDue d m = passing (handed (developmentWithin d && withinRigid m) (d .neutral)) (answered (movedC d m))
+movedDue d m = passing (fails OUT-OF-RANGE (developmentWithin d && withinRigid m) or neutralTest (d .neutral)) (answered (movedC d m))

@@ -1,7 +1,8 @@
 -- Unit vectors: along a vector, and away from an axis.
 use lib.Ieee.{Float}
 use Rattle.checked.specs.Refusals.{OUT-OF-RANGE}
-use Rattle.checked.specs.Checked.{Checked, first, _>>=_, given, num, _⊘_, Due, answered, unless}
+use Rattle.checked.specs.Checked.{Checked, first, _>>=_, given, num, _⊘_, Due, answered}
+use Rattle.checked.specs.Tests.{fails, passing}
 use Rattle.checked.specs.Numbers.{one}
 use Rattle.rounding.specs.Computations.{sqrtC}
 use Rattle.vectors.specs.declared.Vec3.{Vec3}
@@ -33,4 +34,4 @@ radialC origin axis p = do
 
 -- `unit`, an entry
 unfoldable pub unitDue : Vec3 → Due Vec3
-unitDue v = unless OUT-OF-RANGE (within3 v) (answered (unitC v))
+unitDue v = passing (fails OUT-OF-RANGE (within3 v)) (answered (unitC v))

@@ -3,6 +3,7 @@ ghost use mathlib.Core.Path.{_≡_};
 ghost use Rattle.vectors.specs.Entries.{vectorDue};
 ghost use Rattle.directions.specs.Directions.{unitDue};
 use checked::OUT_OF_RANGE;
+use checked::fails;
 use vectors::Vec3;
 use vectors::Vector;
 use vectors::is_within3;
@@ -14,9 +15,10 @@ pub mod formula;
 pub fn unit(v: Vec3) -> Vector
     ensures { λ r. ⌜ vectorDue r ≡ unitDue v ⌝ }
 {
-    if is_within3(v) {
+    let t = fails(OUT_OF_RANGE, is_within3(v));
+    if t == 0 {
         settle(formula::unit(v))
     } else {
-        Vector::Refused(OUT_OF_RANGE)
+        Vector::Refused(t)
     }
 }

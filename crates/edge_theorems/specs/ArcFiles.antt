@@ -4,7 +4,7 @@
 use Prim.Native.Nat.{ℕ, _*_}
 use native.Mathlib.Omega.{arith}
 use mathlib.Core.Path.{_≡_, refl, sym, ap, _∙_, subst}
-use mathlib.Core.Bool.{Bool, true, false}
+use mathlib.Core.Bool.{Bool, true, false, cond}
 use mathlib.Core.List.{List, [], _∷_, _++_}
 use lib.Dec.{T, leb}
 use lib.IntN.{ℤ}
@@ -12,9 +12,10 @@ use lib.ListN.{length, drop}
 use lib.Ieee.{Float, nan, inf, fin, up, down}
 use lib.Ieee.Bits.{is-true}
 use Rattle.checked.specs.Refusals.{OUT-OF-RANGE, BAD-BOX-OR-SUMS, COUNT-TOO-LARGE}
-use Rattle.checked.specs.Checked.{Due, due, refused, unless}
+use Rattle.checked.specs.Checked.{first, Due, due, refused}
+use Rattle.checked.specs.Tests.{fails, _or_, passing}
 use Rattle.vectors.specs.declared.Vec3.{Vec3}
-use Rattle.boxes.specs.Boxes.{free, empty, passed, widenedBy}
+use Rattle.boxes.specs.Boxes.{free, empty, widenedBy}
 use Rattle.boxes.specs.Laws.{empty-free}
 use Rattle.boxes.specs.Demand3.{answer}
 use Rattle.arcs.specs.Sweeps.{endsWithin}
@@ -45,11 +46,12 @@ pub data Line : List ℕ → Type 0 where
 -- ================ the proof
 
 -- ---- a box call with an arc in range is accepted on the empty box
-accepted : (e : Edge) → T (endsWithin (e .arc .center) (e .arc .axis) (e .arc .radius) (e .from) (e .to)) → answer (callDue (asCall e) empty) ≡ passed
+accepted : (e : Edge) → T (endsWithin (e .arc .center) (e .arc .axis) (e .arc .radius) (e .from) (e .to)) → answer (callDue (asCall e) empty) ≡ due tt
+unfolding first fails passing
 accepted e h =
     ap answer (
     extend-answer (e .arc) (e .from) (e .to) empty
-    ∙ λ i. unless OUT-OF-RANGE (is-true (endsWithin (e .arc .center) (e .arc .axis) (e .arc .radius) (e .from) (e .to)) h i) (unless BAD-BOX-OR-SUMS (is-true (free empty) empty-free i) (due (widenedBy empty (points (e .arc) (e .from) (e .to) .value))))
+    ∙ λ i. passing (fails OUT-OF-RANGE (is-true (endsWithin (e .arc .center) (e .arc .axis) (e .arc .radius) (e .from) (e .to)) h i) or fails BAD-BOX-OR-SUMS (is-true (free empty) empty-free i)) (due (widenedBy empty (points (e .arc) (e .from) (e .to) .value)))
     )
 
 all-accepted : (es : List Edge) → InRange es → NoneRefused es
@@ -67,7 +69,7 @@ ten-thousandths nan = refl
 ten-thousandths (inf s) = refl
 ten-thousandths (fin s m e) = by s (nearest-up (1000 * (m * up e)) (down e)) (leb (nearest-up (1000 * (m * up e)) (down e)) most)
   where
-    by : (s : Bool) (size : ℕ) (b : Bool) → Ten (unless COUNT-TOO-LARGE b (due (signed s size)))
+    by : (s : Bool) (size : ℕ) (b : Bool) → Ten (cond b (due (signed s size)) (refused COUNT-TOO-LARGE))
     by s size true = tt
     by s size false = refl
 

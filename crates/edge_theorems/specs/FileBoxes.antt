@@ -11,11 +11,12 @@ use lib.ListN.{length, drop, length-drop}
 use lib.Ieee.{Float, nan, inf, fin, eq, up, down}
 use lib.Ieee.Fits.{and-l, down-pos}
 use Rattle.checked.specs.Checked.{Due, due, refused}
+use Rattle.checked.specs.Answers.{after}
 use Rattle.order.specs.Least.{negative}
 use Rattle.order.specs.Extremes.{Same}
 use Rattle.vectors.specs.declared.Vec3.{Vec3}
 use Rattle.boxes.specs.declared.Bounds.{Bounds}
-use Rattle.boxes.specs.Boxes.{Axis, X, Y, Z, at, free, empty, after, passed}
+use Rattle.boxes.specs.Boxes.{Axis, X, Y, Z, at, free, empty}
 use Rattle.boxes.specs.Laws.{empty-free}
 use Rattle.boxes.specs.Demand3.{answer, SameAccepted, SameBox}
 use Rattle.arcs.specs.Entries.{extendDue}
@@ -45,7 +46,7 @@ pub data FileOf : List ℕ → List Edge → Type 0 where
 -- each is accepted on the empty box
 abbrev pub NoneRefused : List Edge → Type 0
 NoneRefused [] = Unit
-NoneRefused (e ∷ es) = (answer (callDue (asCall e) empty) ≡ passed) × NoneRefused es
+NoneRefused (e ∷ es) = (answer (callDue (asCall e) empty) ≡ due tt) × NoneRefused es
 
 -- the box that the calls leave of the empty box
 abbrev pub boxOf : List Edge → Bounds
@@ -69,7 +70,7 @@ seenAfter seen (e ∷ es) = seenAfter (record { «has_edge» = true; bounds = af
 
 abbrev allDue : List Edge → List (Due Unit)
 allDue [] = []
-allDue (e ∷ es) = passed ∷ allDue es
+allDue (e ∷ es) = due tt ∷ allDue es
 
 head-of : (xs ys : List (Due Unit)) (x y : Due Unit) → x ∷ xs ≡ y ∷ ys → x ≡ y
 head-of xs ys x y e = cc
@@ -77,7 +78,7 @@ head-of xs ys x y e = cc
 tail-of : (xs ys : List (Due Unit)) (x y : Due Unit) → x ∷ xs ≡ y ∷ ys → xs ≡ ys
 tail-of xs ys x y e = cc
 
-goes-on : (on : Seen → List ℕ) (k : ℕ) (b : Bounds) (d : Due Bounds) → answer d ≡ passed → called on k d ≡ on (record { «has_edge» = true; bounds = after b d })
+goes-on : (on : Seen → List ℕ) (k : ℕ) (b : Bounds) (d : Due Bounds) → answer d ≡ due tt → called on k d ≡ on (record { «has_edge» = true; bounds = after b d })
 goes-on on k b (due c) e = refl
 goes-on on k b (refused n) e = absurd (let z : _≡_ {A = ℕ} 0 1 = cc in omega arith)
 

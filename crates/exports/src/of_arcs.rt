@@ -7,7 +7,8 @@ ghost use Rattle.arcs.specs.Entries as Arcs;
 ghost use lib.ListN.{length};
 ghost use Rattle.arcs.specs.Entries.{innerPointsDue};
 ghost use Rattle.rows.specs.Rows as Rows;
-ghost use Rattle.c_arrays.specs.Records.{vec2, vec3, alone, ofVec3, numberOf, after};
+ghost use Rattle.checked.specs.Answers.{numberOf};
+ghost use Rattle.c_arrays.specs.Records.{vec2, vec3, alone, ofVec3, after};
 ghost use Rattle.c_arrays.specs.ArcRecords.{arc, profileArc, bounds, ofArc, ofBounds, afterCount};
 use c_arrays::arc_records::arc_of;
 use c_arrays::arc_records::bounds_of;
@@ -131,7 +132,7 @@ pub extern "C" fn jr_arc_inner_points(
     row: &mut [f64],
     written: &mut [u64; 1],
 ) -> u32
-    ensures number { λ r. ⌜ r ≡ Rows.numberOf (innerPointsDue (arc (now (a .entry))) (vec3 (now (from .entry))) (vec3 (now (to .entry))) chord (length (now (row .entry)))) ⌝ }
+    ensures number { λ r. ⌜ r ≡ numberOf (innerPointsDue (arc (now (a .entry))) (vec3 (now (from .entry))) (vec3 (now (to .entry))) chord (length (now (row .entry)))) ⌝ }
     ensures row { λ _. ⌜ now (row .exit) ≡ Rows.rowAfter (innerPointsDue (arc (now (a .entry))) (vec3 (now (from .entry))) (vec3 (now (to .entry))) chord (length (now (row .entry)))) (now (row .entry)) ⌝ }
     ensures written { λ _. ⌜ now (written .exit) ≡ afterCount (now (written .entry)) (innerPointsDue (arc (now (a .entry))) (vec3 (now (from .entry))) (vec3 (now (to .entry))) chord (length (now (row .entry)))) ⌝ }
 {

@@ -4,7 +4,8 @@ ghost use lib.ListN.{length};
 ghost use Rattle.rows.specs.Rows as Rows;
 ghost use Rattle.curves.specs.Entries as Curves;
 ghost use Rattle.curves.specs.DrawnEntries.{innerPointsDue};
-ghost use Rattle.c_arrays.specs.Records.{vec3, numberOf, after, tagDue};
+ghost use Rattle.checked.specs.Answers.{numberOf};
+ghost use Rattle.c_arrays.specs.Records.{vec3, after, tagDue};
 ghost use Rattle.c_arrays.specs.ArcRecords.{rigid, bounds, ofArc, ofBounds, afterCount};
 ghost use Rattle.c_arrays.specs.TraceRecords.{someDue};
 ghost use Rattle.c_shapes.specs.Stores.{stored};
@@ -101,7 +102,7 @@ pub extern "C" fn jr_curve_inner_points(
     row: &mut [f64],
     written: &mut [u64; 1],
 ) -> u32
-    ensures number { λ n. ⌜ n ≡ Rows.numberOf (tagDue (isCurve kind arc trace) (innerPointsDue (curve (now (c .entry)) kind arc trace) (vec3 (now (from .entry))) (vec3 (now (to .entry))) chord (length (now (row .entry))))) ⌝ }
+    ensures number { λ n. ⌜ n ≡ numberOf (tagDue (isCurve kind arc trace) (innerPointsDue (curve (now (c .entry)) kind arc trace) (vec3 (now (from .entry))) (vec3 (now (to .entry))) chord (length (now (row .entry))))) ⌝ }
     ensures row { λ _. ⌜ now (row .exit) ≡ Rows.rowAfter (tagDue (isCurve kind arc trace) (innerPointsDue (curve (now (c .entry)) kind arc trace) (vec3 (now (from .entry))) (vec3 (now (to .entry))) chord (length (now (row .entry))))) (now (row .entry)) ⌝ }
     ensures written { λ _. ⌜ now (written .exit) ≡ afterCount (now (written .entry)) (tagDue (isCurve kind arc trace) (innerPointsDue (curve (now (c .entry)) kind arc trace) (vec3 (now (from .entry))) (vec3 (now (to .entry))) chord (length (now (row .entry))))) ⌝ }
 {

@@ -1,7 +1,8 @@
 // Developments.
 ghost use mathlib.Core.Path.{_≡_};
 ghost use Rattle.developments.specs.Developments as Developments;
-ghost use Rattle.c_arrays.specs.Records.{vec2, vec3, ofVec3, numberOf, after};
+ghost use Rattle.checked.specs.Answers.{numberOf};
+ghost use Rattle.c_arrays.specs.Records.{vec2, vec3, ofVec3, after};
 ghost use Rattle.c_arrays.specs.ArcRecords.{rigid};
 ghost use Rattle.c_arrays.specs.DevelopmentRecords.{development, ofDevelopment, ofUnrolled};
 use c_arrays::arc_records::rigid_of;

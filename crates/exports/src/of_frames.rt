@@ -2,7 +2,8 @@
 ghost use mathlib.Core.Path.{_≡_};
 ghost use mathlib.Core.Bool.{true};
 ghost use Rattle.cones.specs.Entries as Frames;
-ghost use Rattle.c_arrays.specs.Records.{vec3, alone, ofVec3, numberOf, after};
+ghost use Rattle.checked.specs.Answers.{numberOf};
+ghost use Rattle.c_arrays.specs.Records.{vec3, alone, ofVec3, after};
 ghost use Rattle.c_arrays.specs.FaceRecords.{cone, frame, ofFrame};
 use c_arrays::face_records::cone_of;
 use c_arrays::face_records::frame_of;

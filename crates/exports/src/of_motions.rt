@@ -1,7 +1,8 @@
 // Motions.
 ghost use mathlib.Core.Path.{_≡_};
 ghost use Rattle.motions.specs.Motions as Motions;
-ghost use Rattle.c_arrays.specs.Records.{vec3, ofVec3, numberOf, after};
+ghost use Rattle.checked.specs.Answers.{numberOf};
+ghost use Rattle.c_arrays.specs.Records.{vec3, ofVec3, after};
 ghost use Rattle.c_arrays.specs.ArcRecords.{rigid, ofRigid};
 use c_arrays::arc_records::rigid_of;
 use c_arrays::arc_records::store_motion;

@@ -1,7 +1,8 @@
 // Pieces of a development.
 ghost use mathlib.Core.Path.{_≡_};
 ghost use Rattle.pieces.specs.Entries as Pieces;
-ghost use Rattle.c_arrays.specs.Records.{vec2, alone, ofVec2, ofVec3, numberOf, after, tagDue};
+ghost use Rattle.checked.specs.Answers.{numberOf};
+ghost use Rattle.c_arrays.specs.Records.{vec2, alone, ofVec2, ofVec3, after, tagDue};
 ghost use Rattle.piece_arrays.specs.Arrays.{isPiece, piece, tagsOf, withPiece};
 ghost use Rattle.c_shapes.specs.PieceRecords.{ofPlace, ofMeasure, ofBox};
 ghost use Rattle.c_shapes.specs.Stores.{stored};

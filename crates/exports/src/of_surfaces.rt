@@ -1,7 +1,8 @@
 // The surfaces of faces: planes, cylinders, cones, and walls over a piece.
 ghost use mathlib.Core.Path.{_≡_};
 ghost use Rattle.surfaces.specs.Entries as Surfaces;
-ghost use Rattle.c_arrays.specs.Records.{vec3, ofVec3, numberOf, after, tagDue};
+ghost use Rattle.checked.specs.Answers.{numberOf};
+ghost use Rattle.c_arrays.specs.Records.{vec3, ofVec3, after, tagDue};
 ghost use Rattle.c_arrays.specs.ArcRecords.{rigid};
 ghost use Rattle.c_arrays.specs.TraceRecords.{someDue};
 ghost use Rattle.c_shapes.specs.Stores.{stored};

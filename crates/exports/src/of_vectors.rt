@@ -1,7 +1,8 @@
 // Vectors.
 ghost use mathlib.Core.Path.{_≡_};
 ghost use Rattle.vectors.specs.Entries as Vectors;
-ghost use Rattle.c_arrays.specs.Records.{vec3, alone, ofVec3, numberOf, after};
+ghost use Rattle.checked.specs.Answers.{numberOf};
+ghost use Rattle.c_arrays.specs.Records.{vec3, alone, ofVec3, after};
 use c_arrays::store_index;
 use c_arrays::store_number;
 use c_arrays::store_vector;

@@ -1,10 +1,10 @@
 -- The sums over a body's faces, and what a call that adds to them is due to answer.
 use Prim.Native.Nat.{ℕ}
 use mathlib.Core.Bool.{Bool, cond, _&&_}
-use mathlib.Core.Path.{_≡_}
 use lib.Ieee.{Float, lt, neg}
-use Rattle.checked.specs.Refusals.{BAD-BOX-OR-SUMS, NOT-FINITE}
-use Rattle.checked.specs.Checked.{isFinite, Due, due, refused, unless}
+use Rattle.checked.specs.Refusals.{NOT-FINITE}
+use Rattle.checked.specs.Checked.{isFinite, Due, due, refused}
+use Rattle.checked.specs.Answers.{numberOf, after}
 use Rattle.checked.specs.Numbers.{zero, one}
 use Rattle.vectors.specs.Vectors.{origin, isFinite3}
 use Rattle.integrals.specs.declared.SurfaceIntegrals.{SurfaceIntegrals}
@@ -40,25 +40,7 @@ abbrev pub addedDue : Added → Due Integrals
 addedDue (added-variants.Sums s) = due s
 addedDue (added-variants.Refused n) = refused n
 
--- sums handed in are tried for number 4, then the rest is worked out
-abbrev pub onFinite : Integrals → Due Integrals → Due Integrals
-onFinite s rest = unless BAD-BOX-OR-SUMS (finiteSums s) rest
-
 -- ---- calls on lent sums
--- the sums after a call: a refusal leaves them unchanged
-abbrev pub after : Integrals → Due Integrals → Integrals
-after s (due t) = t
-after s (refused n) = s
-
--- the number that a call answers; 0 is none
-abbrev pub numberOf : Due Integrals → ℕ
-numberOf (due t) = 0
-numberOf (refused n) = n
-
+-- what is left of them, and the number that the call answers
 abbrev pub outcome : Integrals → Due Integrals → Outcome
 outcome s d = record { sums = after s d; number = numberOf d }
-
--- what a call on lent sums answers and leaves, by what it is due on sums by value
-pub record Lent (call : Integrals → Due Integrals) (entry : Integrals) (answer : ℕ) (exit : Integrals) : Type 0 where
-  pub says : answer ≡ numberOf (call entry)
-  pub leaves : exit ≡ after entry (call entry)

@@ -1,8 +1,9 @@
 -- What the entry on meets is due to answer.
 use mathlib.Core.Bool.{Bool, true, _&&_}
 use lib.Ieee.{Float}
+use Rattle.checked.specs.Refusals.{OUT-OF-RANGE}
 use Rattle.checked.specs.Checked.{within, Due, due, refused, answered}
-use Rattle.checked.specs.Handed.{handed, passing}
+use Rattle.checked.specs.Tests.{fails, _or_, passing, neutralTest}
 use Rattle.vectors.specs.Vectors.{within3}
 use Rattle.meets.specs.declared.generatrix.Jet.{Jet}
 use Rattle.meets.specs.declared.Turn.{Turn}
@@ -27,4 +28,4 @@ meetWithin m = within3 (m .origin) && (within3 (m .axis) && (within (m .radius) 
 
 -- `Meet::point`
 unfoldable pub pointDue : Meet → Float → Float → Due Jet
-pointDue m phi n = passing (handed (meetWithin m && (within phi && within n)) n) (answered (jetC m phi n))
+pointDue m phi n = passing (fails OUT-OF-RANGE (meetWithin m && (within phi && within n)) or neutralTest n) (answered (jetC m phi n))

@@ -3,7 +3,8 @@ use Prim.Native.Nat.{ℕ}
 use mathlib.Core.Bool.{Bool, _&&_}
 use lib.Ieee.{Float}
 use Rattle.checked.specs.Refusals.{OUT-OF-RANGE}
-use Rattle.checked.specs.Checked.{Checked, first, _>>=_, given, num, _⊕_, _⊖_, _⊗_, within, Due, due, refused, answered, unless}
+use Rattle.checked.specs.Checked.{Checked, first, _>>=_, given, num, _⊕_, _⊖_, _⊗_, within, Due, due, refused, answered}
+use Rattle.checked.specs.Tests.{fails, passing}
 use Rattle.checked.specs.Numbers.{one}
 use Rattle.libm.specs.Circle.{sincosC}
 use Rattle.directions.specs.Directions.{overLengthC}
@@ -66,7 +67,7 @@ rotationC axis angle = do
   given (record { rot = rot; shift = origin })
 
 unfoldable pub rotationDue : Vec3 → Float → Due Rigid
-rotationDue axis angle = unless OUT-OF-RANGE (within3 axis && within angle) (answered (rotationC axis angle))
+rotationDue axis angle = passing (fails OUT-OF-RANGE (within3 axis && within angle)) (answered (rotationC axis angle))
 
 -- ---- `Rigid::frame`: the axes of the frame are the columns
 unfoldable pub frameOf : Vec3 → Vec3 → Vec3 → Vec3 → Rigid
@@ -76,7 +77,7 @@ frameOf o x y z = record {
 }
 
 unfoldable pub frameDue : Vec3 → Vec3 → Vec3 → Vec3 → Due Rigid
-frameDue o x y z = unless OUT-OF-RANGE (within3 o && (within3 x && (within3 y && within3 z))) (due (frameOf o x y z))
+frameDue o x y z = passing (fails OUT-OF-RANGE (within3 o && (within3 x && (within3 y && within3 z)))) (due (frameOf o x y z))
 
 -- ---- `Rigid::apply_vector` and `Rigid::apply`
 unfoldable pub applyVectorC : Rigid → Vec3 → Checked Vec3
@@ -87,7 +88,7 @@ unfoldable pub applyC : Rigid → Vec3 → Checked Vec3
 applyC m p = applyVectorC m p ⊞ vec (m .shift)
 
 unfoldable pub applyVectorDue : Rigid → Vec3 → Due Vec3
-applyVectorDue m v = unless OUT-OF-RANGE (withinRigid m && within3 v) (answered (applyVectorC m v))
+applyVectorDue m v = passing (fails OUT-OF-RANGE (withinRigid m && within3 v)) (answered (applyVectorC m v))
 
 unfoldable pub applyDue : Rigid → Vec3 → Due Vec3
-applyDue m p = unless OUT-OF-RANGE (withinRigid m && within3 p) (answered (applyC m p))
+applyDue m p = passing (fails OUT-OF-RANGE (withinRigid m && within3 p)) (answered (applyC m p))

@@ -6,6 +6,7 @@ ghost use Rattle.vectors.specs.Vectors.{within3};
 ghost use Rattle.vectors.specs.Entries.{vectorDue};
 ghost use Rattle.motions.specs.Motions.{motionDue, withinRigid, rotationDue, frameDue, applyDue, applyVectorDue};
 use checked::OUT_OF_RANGE;
+use checked::fails;
 use checked::is_within;
 use vectors::Vec3;
 use vectors::Vector;
@@ -82,10 +83,11 @@ impl Rigid {
     pub fn rotation(axis: Vec3, angle: f64) -> Motion
         ensures { λ r. ⌜ motionDue r ≡ rotationDue axis angle ⌝ }
     {
-        if is_within_turn(axis, angle) {
+        let t = fails(OUT_OF_RANGE, is_within_turn(axis, angle));
+        if t == 0 {
             settle(formula::rotation(axis, angle))
         } else {
-            Motion::Refused(OUT_OF_RANGE)
+            Motion::Refused(t)
         }
     }
 
@@ -93,20 +95,22 @@ impl Rigid {
     pub fn frame(origin: Vec3, x: Vec3, y: Vec3, z: Vec3) -> Motion
         ensures { λ r. ⌜ motionDue r ≡ frameDue origin x y z ⌝ }
     {
-        if is_within_frame(origin, x, y, z) {
+        let t = fails(OUT_OF_RANGE, is_within_frame(origin, x, y, z));
+        if t == 0 {
             Motion::Value(formula::frame(origin, x, y, z))
         } else {
-            Motion::Refused(OUT_OF_RANGE)
+            Motion::Refused(t)
         }
     }
 
     pub fn apply(self, p: Vec3) -> Vector
         ensures { λ r. ⌜ vectorDue r ≡ applyDue self p ⌝ }
     {
-        if are_within(self, p) {
+        let t = fails(OUT_OF_RANGE, are_within(self, p));
+        if t == 0 {
             tried(formula::apply(self, p))
         } else {
-            Vector::Refused(OUT_OF_RANGE)
+            Vector::Refused(t)
         }
     }
 
@@ -114,10 +118,11 @@ impl Rigid {
     pub fn apply_vector(self, v: Vec3) -> Vector
         ensures { λ r. ⌜ vectorDue r ≡ applyVectorDue self v ⌝ }
     {
-        if are_within(self, v) {
+        let t = fails(OUT_OF_RANGE, are_within(self, v));
+        if t == 0 {
             tried(formula::apply_vector(self, v))
         } else {
-            Vector::Refused(OUT_OF_RANGE)
+            Vector::Refused(t)
         }
     }
 }

@@ -1,10 +1,11 @@
 -- What the entries on pieces are due to answer.
 use Prim.Native.Nat.{ℕ}
-use mathlib.Core.Bool.{Bool, true, not, _&&_}
+use mathlib.Core.Bool.{Bool, not, _&&_}
 use lib.Ieee.{Float, lt}
+use Rattle.checked.specs.Refusals.{OUT-OF-RANGE, ARC-AND-TRACE, BAD-TOLERANCE}
 use Rattle.checked.specs.Checked.{Checked, first, _>>=_, within, Due, due, refused, answered}
 use Rattle.checked.specs.Numbers.{zero}
-use Rattle.checked.specs.Handed.{passing}
+use Rattle.checked.specs.Tests.{fails, _or_, passing, neutralTest, chordTest}
 use Rattle.vectors.specs.declared.Vec2.{Vec2}
 use Rattle.vectors.specs.declared.Vec3.{Vec3}
 use Rattle.vectors.specs.Vectors.{within2}
@@ -17,7 +18,7 @@ use Rattle.piece_curves.specs.Points.{atC}
 use Rattle.piece_lengths.specs.Bends.{secondC}
 use Rattle.piece_boxes.specs.CurveBoxes.{boxC}
 use Rattle.piece_lengths.specs.Counts.{quadratureC, chordsC, polylineC}
-use Rattle.pieces.specs.Tests.{arcWithin, followedWithin, both, handedPiece}
+use Rattle.pieces.specs.Tests.{arcWithin, followedWithin, both}
 use Rattle.pieces.specs.declared.Rolled.{Rolled}
 use Rattle.pieces.specs.declared.RolledPoint.{RolledPoint}
 use Rattle.pieces.specs.declared.RolledPoint.the-variants as rolled-point
@@ -63,58 +64,58 @@ boxDue (rolled-box.Refused n) = refused n
 unfoldable pub pieceWithin : Rolled → Bool
 pieceWithin p = developmentWithin (p .dev) && (within2 (p .from) && (within2 (p .to) && (arcWithin (p .arc) && followedWithin (p .trace))))
 
--- the number of the test that fails first: of the piece, of the other numbers handed in, of a chord
--- or a deviation
-unfoldable pub tests : Rolled → Bool → Bool → ℕ
-tests p others tolerable = handedPiece (pieceWithin p && others) (p .dev .neutral) (both (p .arc) (p .trace)) tolerable
+-- the number of the test that a piece fails first: its numbers, its neutral radius, and that it has not both an arc and a trace. Numbers that are
+-- handed in beside it are tried before it, a chord or a deviation after it.
+unfoldable pub tests : Rolled → ℕ
+tests p = fails OUT-OF-RANGE (pieceWithin p) or neutralTest (p .dev .neutral) or fails ARC-AND-TRACE (not (both (p .arc) (p .trace)))
 
 -- ---- what is due
 -- `Rolled::at`
 unfoldable pub atDue : Rolled → Float → Due Place
-atDue p t = passing (tests p (within t) true) (answered (do
+atDue p t = passing (fails OUT-OF-RANGE (within t) or tests p) (answered (do
   r ← runC p
   atC r t))
 
 -- `Rolled::second`
 unfoldable pub secondDue : Rolled → Float → Due Vec2
-secondDue p t = passing (tests p (within t) true) (answered (do
+secondDue p t = passing (fails OUT-OF-RANGE (within t) or tests p) (answered (do
   r ← runC p
   secondC r t))
 
 -- `Rolled::reversed`
 unfoldable pub reversedDue : Rolled → Due Rolled
-reversedDue p = passing (tests p true true) (due (back p))
+reversedDue p = passing (tests p) (due (back p))
 
 -- `Rolled::measure`
 unfoldable pub measureDue : Rolled → Due Measure
-measureDue p = passing (tests p true true) (answered (do
+measureDue p = passing (tests p) (answered (do
   r ← runC p
   measureC r))
 
 -- `Rolled::quadrature_pieces`
 unfoldable pub quadratureDue : Rolled → Due ℕ
-quadratureDue p = passing (tests p true true) (answered (do
+quadratureDue p = passing (tests p) (answered (do
   r ← runC p
   quadratureC r))
 
 -- `Rolled::chords`: a chord below 0 is refused; -0 is none
 unfoldable pub chordsDue : Rolled → Float → Float → Due ℕ
-chordsDue p radius chord = passing (tests p (within radius && within chord) (not (lt chord zero))) (answered (do
+chordsDue p radius chord = passing (fails OUT-OF-RANGE (within radius && within chord) or tests p or chordTest chord) (answered (do
   r ← runC p
   chordsC r radius chord))
 
 -- `Rolled::polyline`: a deviation not above 0 is refused
 unfoldable pub polylineDue : Rolled → Float → Due ℕ
-polylineDue p deviation = passing (tests p (within deviation) (lt zero deviation)) (answered (do
+polylineDue p deviation = passing (fails OUT-OF-RANGE (within deviation) or tests p or fails BAD-TOLERANCE (lt zero deviation)) (answered (do
   r ← runC p
   polylineC r deviation))
 
 -- `Rolled::uv_box`
 unfoldable pub uvBoxDue : Rolled → Due FlatBox
-uvBoxDue p = passing (tests p true true) (answered (do
+uvBoxDue p = passing (tests p) (answered (do
   r ← runC p
   boxC r))
 
 -- `Rolled::normal`
 unfoldable pub normalDue : Rolled → Vec2 → Float → Due Vec3
-normalDue p q r = passing (tests p (within2 q && within r) true) (answered (normalC p q r))
+normalDue p q r = passing (fails OUT-OF-RANGE (within2 q && within r) or tests p) (answered (normalC p q r))

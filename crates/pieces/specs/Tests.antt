@@ -1,10 +1,5 @@
 -- What is tried of a piece that is handed in.
-use Prim.Native.Nat.{ℕ}
-use mathlib.Core.Bool.{Bool, true, false, not}
-use lib.Ieee.{Float, lt}
-use Rattle.checked.specs.Refusals.{OUT-OF-RANGE, NEUTRAL-NOT-POSITIVE, ARC-AND-TRACE, BAD-TOLERANCE}
-use Rattle.checked.specs.Numbers.{zero}
-use Rattle.checked.specs.Handed.{fails}
+use mathlib.Core.Bool.{Bool, true, false}
 use Rattle.vectors.specs.Vectors.{within2}
 use Rattle.traces.specs.Traces.{traceWithin}
 use Rattle.piece_curves.specs.declared.PieceArc.{PieceArc}
@@ -30,9 +25,3 @@ isTraced (piece-trace.With t) = true
 unfoldable pub both : PieceArc → PieceTrace → Bool
 both piece-arc.Without t = false
 both (piece-arc.With a) t = isTraced t
-
--- the number of the test that fails first, 0 for none: all numbers handed in are within the limit,
--- the neutral radius is above 0, there are not both an arc and a trace, and a chord is not below 0,
--- a deviation above 0
-unfoldable pub handedPiece : Bool → Float → Bool → Bool → ℕ
-handedPiece all neutral two tolerable = fails OUT-OF-RANGE all (fails NEUTRAL-NOT-POSITIVE (lt zero neutral) (fails ARC-AND-TRACE (not two) (fails BAD-TOLERANCE tolerable 0)))

@@ -7,9 +7,14 @@ ghost use Rattle.vectors.specs.Entries.{vectorDue};
 use crate::parts::are_both;
 use crate::parts::is_arc_within;
 use crate::parts::is_trace_within;
-use crate::parts::tried_piece;
+use checked::ARC_AND_TRACE;
+use checked::BAD_TOLERANCE;
+use checked::OUT_OF_RANGE;
 use checked::earlier;
+use checked::fails;
 use checked::is_within;
+use checked::tried_chord;
+use checked::tried_neutral;
 use chord_counts::counts::CheckedCount;
 use developments::Development;
 use piece_boxes::brackets::CheckedBox;
@@ -165,21 +170,23 @@ impl Rolled {
             & (is_within2(f) & (is_within2(g) & (is_arc_within(a) & is_trace_within(t))))
     }
 
-    // The number of the test of what is handed in that fails first, 0 for none.
-    pub fn tried(self, others: bool, tolerable: bool) -> u8
-        ensures { λ r. ⌜ r ≡ tests self others tolerable ⌝ }
+    // The number of the test that the piece fails first, 0 for none.
+    pub fn tried(self) -> u8
+        ensures { λ r. ⌜ r ≡ tests self ⌝ }
     {
         let a = self.arc;
         let t = self.trace;
-        let within = self.is_within_limit() & others;
-        tried_piece(within, self.dev.neutral, are_both(a, t), tolerable)
+        let n = fails(OUT_OF_RANGE, self.is_within_limit());
+        let n = earlier(n, tried_neutral(self.dev.neutral));
+        earlier(n, fails(ARC_AND_TRACE, !are_both(a, t)))
     }
 
     // The point at t, from 0 at `from` to 1 at `to`, and its derivative in t.
     pub fn at(self, t: f64) -> RolledPoint
         ensures { λ r. ⌜ placeDue r ≡ atDue self t ⌝ }
     {
-        let n = self.tried(is_within(t), true);
+        let n = fails(OUT_OF_RANGE, is_within(t));
+        let n = earlier(n, self.tried());
         if n == 0 {
             settle_place(formula::at(self, t))
         } else {
@@ -191,7 +198,8 @@ impl Rolled {
     pub fn second(self, t: f64) -> RolledSecond
         ensures { λ r. ⌜ flatDue r ≡ secondDue self t ⌝ }
     {
-        let n = self.tried(is_within(t), true);
+        let n = fails(OUT_OF_RANGE, is_within(t));
+        let n = earlier(n, self.tried());
         if n == 0 {
             let x = formula::run(self);
             let r = x.value;
@@ -205,7 +213,7 @@ impl Rolled {
     pub fn reversed(self) -> RolledPiece
         ensures { λ r. ⌜ pieceDue r ≡ reversedDue self ⌝ }
     {
-        let n = self.tried(true, true);
+        let n = self.tried();
         if n == 0 {
             RolledPiece::Value(formula::reversed(self))
         } else {
@@ -217,7 +225,7 @@ impl Rolled {
     pub fn measure(self) -> RolledMeasure
         ensures { λ r. ⌜ measuredDue r ≡ measureDue self ⌝ }
     {
-        let n = self.tried(true, true);
+        let n = self.tried();
         if n == 0 {
             settle_measure(formula::measure(self))
         } else {
@@ -229,7 +237,7 @@ impl Rolled {
     pub fn quadrature_pieces(self) -> RolledCount
         ensures { λ r. ⌜ countDue r ≡ quadratureDue self ⌝ }
     {
-        let n = self.tried(true, true);
+        let n = self.tried();
         if n == 0 {
             let x = formula::run(self);
             let r = x.value;
@@ -243,7 +251,9 @@ impl Rolled {
     pub fn chords(self, radius: f64, chord: f64) -> RolledCount
         ensures { λ r. ⌜ countDue r ≡ chordsDue self radius chord ⌝ }
     {
-        let n = self.tried(is_within(radius) & is_within(chord), !(chord < 0.0));
+        let n = fails(OUT_OF_RANGE, is_within(radius) & is_within(chord));
+        let n = earlier(n, self.tried());
+        let n = earlier(n, tried_chord(chord));
         if n == 0 {
             let x = formula::run(self);
             let r = x.value;
@@ -258,7 +268,9 @@ impl Rolled {
     pub fn polyline(self, deviation: f64) -> RolledCount
         ensures { λ r. ⌜ countDue r ≡ polylineDue self deviation ⌝ }
     {
-        let n = self.tried(is_within(deviation), 0.0 < deviation);
+        let n = fails(OUT_OF_RANGE, is_within(deviation));
+        let n = earlier(n, self.tried());
+        let n = earlier(n, fails(BAD_TOLERANCE, 0.0 < deviation));
         if n == 0 {
             let x = formula::run(self);
             let r = x.value;
@@ -272,7 +284,7 @@ impl Rolled {
     pub fn uv_box(self) -> RolledBox
         ensures { λ r. ⌜ boxDue r ≡ uvBoxDue self ⌝ }
     {
-        let n = self.tried(true, true);
+        let n = self.tried();
         if n == 0 {
             let x = formula::run(self);
             let r = x.value;
@@ -287,7 +299,8 @@ impl Rolled {
     pub fn normal(self, q: Vec2, r: f64) -> Vector
         ensures { λ v. ⌜ vectorDue v ≡ normalDue self q r ⌝ }
     {
-        let n = self.tried(is_within2(q) & is_within(r), true);
+        let n = fails(OUT_OF_RANGE, is_within2(q) & is_within(r));
+        let n = earlier(n, self.tried());
         if n == 0 {
             vectors::settle(formula::normal(self, q, r))
         } else {

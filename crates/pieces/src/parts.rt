@@ -1,11 +1,7 @@
 // What is tried of a piece that is handed in, and what it follows run the other way.
 ghost use mathlib.Core.Path.{_≡_};
-ghost use Rattle.pieces.specs.Tests.{arcWithin, followedWithin, isTraced, both, handedPiece};
+ghost use Rattle.pieces.specs.Tests.{arcWithin, followedWithin, isTraced, both};
 ghost use Rattle.pieces.specs.Reversals.{arcBack, turnBack, curveBack, traceBack};
-use checked::ARC_AND_TRACE;
-use checked::BAD_TOLERANCE;
-use checked::NEUTRAL_NOT_POSITIVE;
-use checked::OUT_OF_RANGE;
 use meets::Meet;
 use meets::Turn;
 use piece_curves::PieceArc;
@@ -47,29 +43,6 @@ pub fn are_both(arc: PieceArc, trace: PieceTrace) -> bool
     match arc {
         PieceArc::Without => false,
         PieceArc::With(_) => is_traced(trace),
-    }
-}
-
-// The number of the test that fails first, 0 for none. all: every number handed in is within the
-// limit; two: there are an arc and a trace; tolerable: a chord is not below 0, a deviation is above
-// 0, where there is one.
-pub fn tried_piece(all: bool, neutral: f64, two: bool, tolerable: bool) -> u8
-    ensures { λ r. ⌜ r ≡ handedPiece all neutral two tolerable ⌝ }
-{
-    if all {
-        if 0.0 < neutral {
-            if two {
-                ARC_AND_TRACE
-            } else if tolerable {
-                0
-            } else {
-                BAD_TOLERANCE
-            }
-        } else {
-            NEUTRAL_NOT_POSITIVE
-        }
-    } else {
-        OUT_OF_RANGE
     }
 }
 

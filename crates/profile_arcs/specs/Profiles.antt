@@ -2,7 +2,8 @@
 use mathlib.Core.Bool.{Bool, cond, _&&_}
 use lib.Ieee.{Float, binary64}
 use Rattle.checked.specs.Refusals.{OUT-OF-RANGE}
-use Rattle.checked.specs.Checked.{Checked, first, _>>=_, given, finite, num, _⊕_, _⊖_, _⊗_, Due, answered, unless}
+use Rattle.checked.specs.Checked.{Checked, first, _>>=_, given, finite, num, _⊕_, _⊖_, _⊗_, Due, answered}
+use Rattle.checked.specs.Tests.{fails, passing}
 use Rattle.vectors.specs.declared.Vec2.{Vec2}
 use Rattle.vectors.specs.Vectors.{within2}
 use Rattle.profile_arcs.specs.Angles.{atan2C, aheadC, backC}
@@ -30,4 +31,4 @@ turnC arc a b = do
 
 -- `ProfileArc::turn`, an entry
 unfoldable pub turnDue : ProfileArc → Vec2 → Vec2 → Due Float
-turnDue arc a b = unless OUT-OF-RANGE (within2 (arc .center) && (within2 a && within2 b)) (answered (turnC arc a b))
+turnDue arc a b = passing (fails OUT-OF-RANGE (within2 (arc .center) && (within2 a && within2 b))) (answered (turnC arc a b))

@@ -6,6 +6,7 @@ ghost use Rattle.vectors.specs.Vectors.{within2};
 ghost use Rattle.profile_arcs.specs.Profiles.{turnDue};
 use checked::Number;
 use checked::OUT_OF_RANGE;
+use checked::fails;
 use checked::settle;
 use vectors::Vec2;
 use vectors::is_within2;
@@ -31,10 +32,11 @@ impl ProfileArc {
     pub fn turn(self, a: Vec2, b: Vec2) -> Number
         ensures { λ r. ⌜ numberDue r ≡ turnDue self a b ⌝ }
     {
-        if self.is_handed(a, b) {
+        let t = fails(OUT_OF_RANGE, self.is_handed(a, b));
+        if t == 0 {
             settle(formula::turn(self, a, b))
         } else {
-            Number::Refused(OUT_OF_RANGE)
+            Number::Refused(t)
         }
     }
 }

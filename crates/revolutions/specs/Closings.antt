@@ -2,7 +2,8 @@
 use mathlib.Core.Bool.{Bool, cond, _&&_}
 use lib.Ieee.{Float, neg}
 use Rattle.checked.specs.Refusals.{OUT-OF-RANGE, BAD-BOX-OR-SUMS}
-use Rattle.checked.specs.Checked.{Checked, first, _>>=_, given, num, _⊕_, _⊗_, Due, answered, unless}
+use Rattle.checked.specs.Checked.{Checked, first, _>>=_, given, num, _⊕_, _⊗_, Due, answered}
+use Rattle.checked.specs.Tests.{fails, _or_, passing}
 use Rattle.checked.specs.Numbers.{one}
 use Rattle.vectors.specs.Vectors.{vec, _⊞_}
 use Rattle.cones.specs.declared.Cone.{Cone}
@@ -26,6 +27,5 @@ closeC acc convex s = do
 -- what closing is due: the cone is tried, then both sums
 unfoldable pub closeDue : Cone → Integrals → Integrals → Due Integrals
 closeDue cone s acc =
-    unless OUT-OF-RANGE (coneWithin cone)
-    (unless BAD-BOX-OR-SUMS (finiteSums acc && finiteSums s)
-    (answered (closeC acc (cone .convex) s)))
+    passing (fails OUT-OF-RANGE (coneWithin cone) or fails BAD-BOX-OR-SUMS (finiteSums acc && finiteSums s))
+    (answered (closeC acc (cone .convex) s))

@@ -11,8 +11,11 @@ use native.Mathlib.Omega.{arith}
 use lib.Ieee.{ofBits}
 use lib.Ieee.Bits.{is-true}
 use Rattle.checked.specs.PatternLaws.{yes}
-use Rattle.checked.specs.Checked.{Checked, first, isFinite, Due, due, refused, settled, answered, unless}
-use Rattle.checked.specs.Laws.{first-none}
+use Rattle.checked.specs.Checked.{Checked, first, isFinite, Due, due, refused, settled, answered}
+use Rattle.checked.specs.Answers.{andThen}
+use Rattle.checked.specs.Tests.{fails, passing}
+use Rattle.checked.specs.TestsLaws.{passing-none, fails-none, never, holds, accepted as tests-accepted}
+use Rattle.checked.specs.Laws.{first-none, zero-first}
 use Rattle.vectors.specs.declared.Vec3.{Vec3}
 use Rattle.vectors.specs.Vectors.{isFinite3, within3}
 use Rattle.cones.specs.declared.Cone.{Cone}
@@ -28,9 +31,7 @@ use Rattle.face_paths.specs.ArcPaths.{courseAt, arcPathC}
 use Rattle.face_paths.specs.PiecePaths.{driftAt}
 use Rattle.face_paths.specs.Paths.{piecePathC}
 use Rattle.revolutions.specs.Closings.{closeC, closeDue}
-use Rattle.checked.specs.HandedLaws.{passing-none}
-use Rattle.checked.specs.FaceTestsLaws.{tests-none, accepted as tests-accepted}
-use Rattle.revolutions.specs.Revolutions.{Path, arc, piece, pathWithin, pathNeutral, pathSingle, liesOn, pathC, sumsC, revolutionC, every, faceWithin, revolutionDue, openDue, addC, addDue, andThen, addedInTurn, inTurn}
+use Rattle.revolutions.specs.Revolutions.{Path, arc, piece, pathWithin, pathNeutral, pathSingle, liesOn, pathC, sumsC, revolutionC, every, tests, faceWithin, revolutionDue, openDue, addC, addDue, addedInTurn, inTurn}
 
 -- ---- sums stay finite
 each-sound : (v : Revolved) (p : Path) (s : Integrals) → pathC v p s .refusal ≡ 0 → FiniteSums s → FiniteSums (pathC v p s .value)
@@ -51,12 +52,22 @@ both : (a b : Bool) → (a && b) ≡ true → (a ≡ true) × (b ≡ true)
 both true b h = (refl, h)
 both false b h = absurd (yes h)
 
-never : {A : Type 0} (n : ℕ) (t : A) → refused n ≡ due t → ⊥
-never n t h = let z : _≡_ {A = ℕ} 0 1 = cc in omega arith
+-- all five hold
+abbrev Passed : Bool → Bool → Bool → Bool → Bool → Type 0
+Passed a p s f l = (a ≡ true) × ((p ≡ true) × ((s ≡ true) × ((f ≡ true) × (l ≡ true))))
 
-passed : {A : Type 0} (n : ℕ) (b : Bool) (rest : Due A) (t : A) → unless n b rest ≡ due t → (b ≡ true) × (rest ≡ due t)
-passed n true rest t h = (refl, h)
-passed n false rest t h = absurd (never n t h)
+tests-none : (a p s f l : Bool) → Passed a p s f l → tests a p s f l ≡ 0
+unfolding tests
+tests-none a p s f l h = simp (h .0, h .1 .0, h .1 .1 .0, h .1 .1 .1 .0, h .1 .1 .1 .1, fails-none, zero-first)
+
+tests-passed : (a p s f l : Bool) → tests a p s f l ≡ 0 → Passed a p s f l
+unfolding tests
+tests-passed a p s f l h =
+    let seven = first-none _ _ h in
+    let four = first-none _ _ (seven .0) in
+    let three = first-none _ _ (four .0) in
+    let two = first-none _ _ (three .0) in
+    (holds 0 a (two .0), (holds 1 p (two .1), (holds 2 s (three .1), (holds 3 f (four .1), holds 6 l (seven .1)))))
 
 -- 1, 2, 3 and 7 of a path, and of every path
 abbrev Fit : Cone → Path → Type 0
@@ -101,8 +112,8 @@ module _ (cone : Cone) (o : Vec3) where
         (λ z. added-are ps (m .value) (one .1, (two .1, (three .1, seven .1))) (add-sound cone o p s z f))
 
     close-is : (s acc : Integrals) → FiniteSums s → finiteSums acc ≡ true → closeDue cone s acc ≡ answered (closeC acc (cone .convex) s)
-    unfolding closeDue
-    close-is s acc f a = simp (cone-within, a, is-true (finiteSums s) f)
+    unfolding closeDue passing
+    close-is s acc f a = simp (cone-within, a, is-true (finiteSums s) f, fails-none, zero-first)
       where
         cone-within : coneWithin cone ≡ true
         cone-within = unfold faceWithin in both (coneWithin cone) (within3 o) face .0
@@ -112,8 +123,8 @@ module _ (cone : Cone) (o : Vec3) where
       sums = foldListC (addC cone o) ps nothing
 
       opened : andThen (openDue cone o) (addedInTurn cone o ps) ≡ answered sums
-      unfolding openDue
-      opened = simp face (added-are ps nothing fit nothing-finite)
+      unfolding openDue passing
+      opened = simp (face, fails-none) (added-are ps nothing fit nothing-finite)
 
       closed : andThen (answered sums) (λ s. closeDue cone s acc) ≡ settled (first (sums .refusal) (closeC acc (cone .convex) (sums .value) .refusal)) (closeC acc (cone .convex) (sums .value) .value)
       closed = then-settled (sums .refusal) (sums .value) (λ s. closeDue cone s acc) (closeC acc (cone .convex) (sums .value))
@@ -138,7 +149,7 @@ module _ (cone : Cone) (o : Vec3) where
   added-due (p ∷ ps) s t h =
       then-due (addDue cone o p s) (addedInTurn cone o ps) t (AllFit cone (p ∷ ps)) h
       (λ m e r.
-      let this = tests-accepted _ m (faceWithin cone o && pathWithin p) (pathNeutral p) (pathSingle p) (finiteSums s) (liesOn cone p) e .0 in
+      let this = tests-passed (faceWithin cone o && pathWithin p) (pathNeutral p) (pathSingle p) (finiteSums s) (liesOn cone p) (tests-accepted _ _ m e .0) in
       let rest = added-due ps m t r in
       (simp (both (faceWithin cone o) (pathWithin p) (this .0) .1, rest .0), (simp (this .1 .0, rest .1 .0), (simp (this .1 .1 .0, rest .1 .1 .0), simp (this .1 .1 .1 .1, rest .1 .1 .1)))))
 
@@ -150,14 +161,14 @@ module _ (cone : Cone) (o : Vec3) where
       (λ s e c.
       then-due (openDue cone o) (addedInTurn cone o ps) s (revolutionDue cone o ps acc ≡ due t) e
       (λ n f g.
-      let face = passed _ (faceWithin cone o) _ n f .0 in
-      let four = passed _ (finiteSums acc && finiteSums s) _ t (passed _ (coneWithin cone) _ t c .1) .0 in
+      let face = holds 0 (faceWithin cone o) (tests-accepted _ _ n f .0) in
+      let four = holds 3 (finiteSums acc && finiteSums s) (first-none _ _ (tests-accepted _ _ t c .0) .1) in
       sym (same face ps acc (added-due ps n s g) (both (finiteSums acc) (finiteSums s) four .0)) ∙ h))
 
   -- and `revolution` only where they are
   pub accepts : (ps : List Path) (acc t : Integrals) → revolutionDue cone o ps acc ≡ due t → inTurn cone o ps acc ≡ due t
   unfolding revolutionDue
   accepts ps acc t h =
-      let all = tests-accepted _ t (faceWithin cone o && every pathWithin ps) (every pathNeutral ps) (every pathSingle ps) (finiteSums acc) (every (liesOn cone) ps) h .0 in
+      let all = tests-passed (faceWithin cone o && every pathWithin ps) (every pathNeutral ps) (every pathSingle ps) (finiteSums acc) (every (liesOn cone) ps) (tests-accepted _ _ t h .0) in
       let ones = both (faceWithin cone o) (every pathWithin ps) (all .0) in
       same (ones .0) ps acc (ones .1, (all .1 .0, (all .1 .1 .0, all .1 .1 .1 .1))) (all .1 .1 .1 .0) ∙ h

@@ -1,10 +1,13 @@
 -- Integrals of a face on a surface of revolution: `revolution` over the list of its paths, and the
 -- calls that stand in its place.
+use Prim.Native.Nat.{ℕ}
 use mathlib.Core.Bool.{Bool, true, not, _&&_}
 use mathlib.Core.List.{List, [], _∷_}
 use lib.Ieee.{Float, lt, eq}
-use Rattle.checked.specs.Refusals.{OUT-OF-RANGE}
-use Rattle.checked.specs.Checked.{Checked, first, _>>=_, given, Due, due, refused, answered, unless}
+use Rattle.checked.specs.Refusals.{OUT-OF-RANGE, NEUTRAL-NOT-POSITIVE, ARC-AND-TRACE, BAD-BOX-OR-SUMS, PIECE-ON-CONE}
+use Rattle.checked.specs.Checked.{Checked, first, _>>=_, given, Due, due, refused, answered}
+use Rattle.checked.specs.Answers.{andThen}
+use Rattle.checked.specs.Tests.{fails, _or_, passing}
 use Rattle.checked.specs.Numbers.{zero}
 use Rattle.vectors.specs.declared.Vec3.{Vec3}
 use Rattle.vectors.specs.Vectors.{within3}
@@ -22,8 +25,6 @@ use Rattle.integrals.specs.declared.integrands.Revolved.{Revolved}
 use Rattle.integrals.specs.Integrands.{revolvedC}
 use Rattle.face_paths.specs.ArcPaths.{arcPathC}
 use Rattle.face_paths.specs.Paths.{piecePathC}
-use Rattle.checked.specs.Handed.{passing}
-use Rattle.checked.specs.Tests.{tests}
 use Rattle.revolutions.specs.Closings.{closeC, closeDue}
 
 -- A curve of the face's outline, as its loop runs it: an arc about the axis from one point to
@@ -77,6 +78,15 @@ unfoldable pub every : (Path → Bool) → List Path → Bool
 every test [] = true
 every test (p ∷ ps) = test p && every test ps
 
+-- the number of the test that fails first, of one path or of all: its numbers and those of the face, 1; 2; 3; the sums, 4; 7
+unfoldable pub tests : Bool → Bool → Bool → Bool → Bool → ℕ
+tests within neutral single finite lies =
+    fails OUT-OF-RANGE within
+    or fails NEUTRAL-NOT-POSITIVE neutral
+    or fails ARC-AND-TRACE single
+    or fails BAD-BOX-OR-SUMS finite
+    or fails PIECE-ON-CONE lies
+
 -- the face's cone, and the point that volumes are measured from
 unfoldable pub faceWithin : Cone → Vec3 → Bool
 faceWithin cone o = coneWithin cone && within3 o
@@ -91,7 +101,7 @@ revolutionDue cone o ps acc =
 -- ---- the calls in its place
 -- opening: nothing is summed yet
 unfoldable pub openDue : Cone → Vec3 → Due Integrals
-openDue cone o = unless OUT-OF-RANGE (faceWithin cone o) (due nothing)
+openDue cone o = passing (fails OUT-OF-RANGE (faceWithin cone o)) (due nothing)
 
 -- the running sums after one path, whose call works out the surface for itself
 unfoldable pub addC : Cone → Vec3 → Path → Integrals → Checked Integrals
@@ -105,11 +115,6 @@ addDue cone o p s =
     passing
     (tests (faceWithin cone o && pathWithin p) (pathNeutral p) (pathSingle p) (finiteSums s) (liesOn cone p))
     (answered (addC cone o p s))
-
--- one call, then the next with what it gave, unless it was refused
-abbrev pub andThen : {A B : Type 0} → Due A → (A → Due B) → Due B
-andThen (due a) rest = rest a
-andThen (refused n) rest = refused n
 
 -- a call for each path, in their order
 unfoldable pub addedInTurn : Cone → Vec3 → List Path → Integrals → Due Integrals

@@ -2,10 +2,13 @@
 // value, those of the body by value too, or lent.
 ghost use mathlib.Core.Path.{_≡_};
 ghost use mathlib.Core.Bool.{_&&_};
-ghost use Rattle.integrals.specs.Sums.{finiteSums, addedDue, outcome, Lent};
+ghost use Rattle.checked.specs.Answers.{Lent};
+ghost use Rattle.integrals.specs.Sums.{finiteSums, addedDue, outcome};
 ghost use Rattle.revolutions.specs.Closings.{sigma, closeC, closeDue};
 use checked::BAD_BOX_OR_SUMS;
 use checked::OUT_OF_RANGE;
+use checked::earlier;
+use checked::fails;
 use cones::Cone;
 use integrals::Added;
 use integrals::CheckedIntegrals;
@@ -53,14 +56,12 @@ fn are_finite(acc: Integrals, sums: Integrals) -> bool
 pub fn closed(acc: Integrals, cone: Cone, sums: Integrals) -> Added
     ensures { λ r. ⌜ addedDue r ≡ closeDue cone sums acc ⌝ }
 {
-    if cone.is_within() {
-        if are_finite(acc, sums) {
-            settle(joined(acc, cone.convex, sums))
-        } else {
-            Added::Refused(BAD_BOX_OR_SUMS)
-        }
+    let t = fails(OUT_OF_RANGE, cone.is_within());
+    let t = earlier(t, fails(BAD_BOX_OR_SUMS, are_finite(acc, sums)));
+    if t == 0 {
+        settle(joined(acc, cone.convex, sums))
     } else {
-        Added::Refused(OUT_OF_RANGE)
+        Added::Refused(t)
     }
 }
 

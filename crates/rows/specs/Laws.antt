@@ -1,6 +1,6 @@
 -- Laws of items one after the other, and of rows that take them. Assumes nothing.
 use Prim.Native.Nat.{ℕ, zero, suc, _+_, _*_, _≤_, _<_}
-use mathlib.Core.Path.{_≡_, refl, sym, _∙_, ap, ap₂}
+use mathlib.Core.Path.{_≡_, refl, sym, _∙_, ap, ap₂, subst}
 use mathlib.Core.Bool.{Bool, true, false}
 use mathlib.Core.List.{List, [], _∷_, _++_, append-assoc, append-nil}
 use native.Mathlib.Omega.{arith}
@@ -10,11 +10,14 @@ use lib.ListN.{length, take, drop, set, getD, length-append, length-drop}
 use lib.Seq.{drop-drop, take-at, drop-at, drop-cons, take-suc, set-at, sets, sets-eq, length-take-le}
 use lib.Ieee.{Float}
 use Rattle.checked.specs.Refusals.{ROW-TOO-SHORT}
-use Rattle.checked.specs.Checked.{Checked, first, Due, due, refused, settled, unless}
+use Rattle.checked.specs.Checked.{Checked, first, Due, due, refused, settled}
+use Rattle.checked.specs.Answers.{numberOf}
+use Rattle.checked.specs.Tests.{fails, passing}
 use lib.Dec.{leb}
+use Rattle.checked.specs.TestsLaws.{passing-some}
 use Rattle.checked.specs.Laws.{first-zero, settled-some, settled-none, ok}
 use borrow.Author.Tests.{le-leb, lt-leb}
-use Rattle.rows.specs.Rows.{upTo, Item, flatItems, placedItem, allRefusal, itemsDue, someDue, numberOf, partItems, rowAfterItems, DrawnItems}
+use Rattle.rows.specs.Rows.{upTo, Item, flatItems, placedItem, allRefusal, itemsDue, someDue, partItems, rowAfterItems, DrawnItems}
 
 -- ---- one more
 pub upTo-refusal : {A : Type 0} (f : ℕ → Checked A) (m : ℕ) → upTo f (m + 1) .refusal ≡ first (upTo f m .refusal) (f (m + 1) .refusal)
@@ -106,15 +109,15 @@ all-some before f (suc m) h = refl
 
 module _ {A : Type 0} (k : Item A) (before : ℕ) (f : ℕ → Checked A) (m room : ℕ) where
   pub due-short : room < k .width * m → itemsDue k before f m room ≡ refused ROW-TOO-SHORT
-  unfolding itemsDue
+  unfolding itemsDue fails passing
   due-short h = simp (lt-leb (k .width * m) room h)
 
   pub due-some : k .width * m ≤ room → (m ≡ 0 → ⊥) → itemsDue k before f m room ≡ someDue before f m
-  unfolding itemsDue
+  unfolding itemsDue fails passing
   due-some h s = simp (le-leb (k .width * m) room h, all-some before f m s)
 
 pub due-none : {A : Type 0} (k : Item A) (before : ℕ) (f : ℕ → Checked A) (m room : ℕ) → m ≡ 0 → itemsDue k before f m room ≡ due []
-unfolding itemsDue allRefusal upTo
+unfolding itemsDue allRefusal upTo fails passing
 due-none k before f zero room h = simp (le-leb (k .width * 0) room (omega (arith, mul-zero (k .width))), settled-none)
 due-none k before f (suc m) room h = absurd (omega arith)
 
@@ -126,8 +129,8 @@ module _ {A : Type 0} (before : ℕ) (f : ℕ → Checked A) (m : ℕ) where
   some-refused r = settled-some (first before (upTo f m .refusal)) (upTo f m .value) r
 
 -- ---- the written part, by the number
-accepted : {A : Type 0} (fit : Bool) (r : ℕ) (xs : List A) → numberOf (unless ROW-TOO-SHORT fit (settled r xs)) ≡ 0 → unless ROW-TOO-SHORT fit (settled r xs) ≡ due xs
-unfolding settled
+accepted : {A : Type 0} (fit : Bool) (r : ℕ) (xs : List A) → numberOf (passing (fails ROW-TOO-SHORT fit) (settled r xs)) ≡ 0 → passing (fails ROW-TOO-SHORT fit) (settled r xs) ≡ due xs
+unfolding settled fails passing
 accepted true zero xs h = refl
 accepted true (suc r) xs h = absurd (omega arith)
 accepted false r xs h = absurd (omega arith)
@@ -158,3 +161,7 @@ module _ {A : Type 0} (k : Item A) where
   -- a refused call
   pub drawn-refused : (n : ℕ) (row : List Float) → DrawnItems k (refused n) row row n 0
   drawn-refused n row = record { number = refl; part = mul-zero (k .width); rest = refl }
+
+  -- one that failed a test of what is handed in
+  pub drawn-failed : (r : ℕ) (rest : Due (List A)) (row : List Float) → (r ≡ 0 → ⊥) → DrawnItems k (passing r rest) row row r 0
+  drawn-failed r rest row h = subst (λ (d : Due (List A)). DrawnItems k d row row r 0) (sym (passing-some r rest h)) (drawn-refused r row)

@@ -7,7 +7,9 @@ use lib.ListN.{length, drop}
 use lib.Seq.{sets}
 use lib.Ieee.{Float}
 use Rattle.checked.specs.Refusals.{ROW-TOO-SHORT}
-use Rattle.checked.specs.Checked.{Checked, first, _>>=_, given, Due, due, refused, settled, unless}
+use Rattle.checked.specs.Checked.{Checked, first, _>>=_, given, Due, due, refused, settled}
+use Rattle.checked.specs.Answers.{numberOf}
+use Rattle.checked.specs.Tests.{fails, passing}
 use Rattle.vectors.specs.declared.Vec3.{Vec3}
 
 -- what f gives at 1, at 2 and so on up to m, in this order
@@ -36,12 +38,7 @@ module _ {A : Type 0} (k : Item A) where
 
   -- a row of `room` numbers must hold m items
   abbrev pub fitItems : ℕ → ℕ → Due (List A) → Due (List A)
-  fitItems room m rest = unless ROW-TOO-SHORT (leb (k .width * m) room) rest
-
--- what is due once something else is
-abbrev pub andThen : {A B : Type 0} → Due A → (A → Due B) → Due B
-andThen (due a) rest = rest a
-andThen (refused n) rest = refused n
+  fitItems room m rest = passing (fails ROW-TOO-SHORT (leb (k .width * m) room)) rest
 
 -- m items, at least one, each of which meets the refusal `before`, if any, ahead of its own
 abbrev pub someDue : {A : Type 0} → ℕ → (ℕ → Checked A) → ℕ → Due (List A)
@@ -57,11 +54,6 @@ unfoldable pub itemsDue : {A : Type 0} → Item A → ℕ → (ℕ → Checked A
 itemsDue k before f m room = fitItems k room m (settled (allRefusal before f m) (upTo f m .value))
 
 -- ---- what a call on a lent row leaves
--- the number of the refusal, 0 for none
-abbrev pub numberOf : {A : Type 0} → Due A → ℕ
-numberOf (due a) = 0
-numberOf (refused n) = n
-
 module _ {A : Type 0} (k : Item A) where
   -- the written part of the row
   abbrev pub partItems : Due (List A) → List Float

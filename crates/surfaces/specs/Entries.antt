@@ -1,9 +1,9 @@
 -- What the entries on surfaces are due to answer.
 use Prim.Native.Nat.{ℕ}
-use mathlib.Core.Bool.{Bool, true, _&&_}
+use mathlib.Core.Bool.{_&&_}
 use Rattle.checked.specs.Refusals.{OUT-OF-RANGE}
 use Rattle.checked.specs.Checked.{Checked, within, Due, due, refused, answered}
-use Rattle.checked.specs.Handed.{fails, passing}
+use Rattle.checked.specs.Tests.{fails, _or_, passing}
 use Rattle.traces.specs.Traces.{Optional, some, none}
 use Rattle.vectors.specs.declared.Vec3.{Vec3}
 use Rattle.vectors.specs.Vectors.{within3}
@@ -40,26 +40,26 @@ surfaceConeDue surface-cone.Nothing = due none
 surfaceConeDue (surface-cone.Refused n) = refused n
 
 -- ---- what is tried
--- the number of the test that fails first: of the surface, and of the other numbers handed in
-unfoldable pub tests : Surface → Bool → ℕ
-tests (surface.Plane p) others = fails OUT-OF-RANGE (within3 (p .origin) && (within3 (p .normal) && others)) 0
-tests (surface.Cylinder c) others = fails OUT-OF-RANGE (within3 (c .origin) && (within3 (c .axis) && (within (c .radius) && others))) 0
-tests (surface.Cone c) others = fails OUT-OF-RANGE (coneWithin c && others) 0
-tests (surface.Wall w) others = pieces.tests w others true
+-- the number of the test that a surface fails first
+unfoldable pub tests : Surface → ℕ
+tests (surface.Plane p) = fails OUT-OF-RANGE (within3 (p .origin) && within3 (p .normal))
+tests (surface.Cylinder c) = fails OUT-OF-RANGE (within3 (c .origin) && (within3 (c .axis) && within (c .radius)))
+tests (surface.Cone c) = fails OUT-OF-RANGE (coneWithin c)
+tests (surface.Wall w) = pieces.tests w
 
 -- ---- what is due
 -- `Surface::plane`
 unfoldable pub planeDue : Surface → Due (Optional Plane)
-planeDue s = passing (tests s true) (due (planeOf s))
+planeDue s = passing (tests s) (due (planeOf s))
 
 -- `Surface::revolution`
 unfoldable pub revolutionDue : Surface → Due (Optional Cone)
-revolutionDue s = passing (tests s true) (due (coneOf s))
+revolutionDue s = passing (tests s) (due (coneOf s))
 
 -- `Surface::moved`
 unfoldable pub movedDue : Surface → Rigid → Due Surface
-movedDue s m = passing (tests s (withinRigid m)) (answered (movedC s m))
+movedDue s m = passing (fails OUT-OF-RANGE (withinRigid m) or tests s) (answered (movedC s m))
 
 -- `Surface::normal_at`
 unfoldable pub normalDue : Surface → Vec3 → Due Vec3
-normalDue s p = passing (tests s (within3 p)) (answered (normalC s p))
+normalDue s p = passing (fails OUT-OF-RANGE (within3 p) or tests s) (answered (normalC s p))

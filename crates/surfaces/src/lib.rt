@@ -4,6 +4,8 @@ ghost use Rattle.checked.specs.Checked.{settled};
 ghost use Rattle.vectors.specs.Entries.{vectorDue};
 ghost use Rattle.surfaces.specs.Entries.{surfaceDue, surfacePlaneDue, surfaceConeDue, tests, planeDue, revolutionDue, movedDue, normalDue};
 use checked::OUT_OF_RANGE;
+use checked::earlier;
+use checked::fails;
 use checked::is_within;
 use cones::Cone;
 use motions::Rigid;
@@ -78,33 +80,18 @@ fn settle(c: CheckedSurface) -> SurfaceAnswer
 }
 
 impl Surface {
-    // The number of the test of what is handed in that fails first, 0 for none.
-    pub fn tried(self, others: bool) -> u8
-        ensures { λ r. ⌜ r ≡ tests self others ⌝ }
+    // The number of the test that the surface fails first, 0 for none.
+    pub fn tried(self) -> u8
+        ensures { λ r. ⌜ r ≡ tests self ⌝ }
     {
         match self {
-            Surface::Plane(p) => {
-                if is_within3(p.origin) & (is_within3(p.normal) & others) {
-                    0
-                } else {
-                    OUT_OF_RANGE
-                }
-            }
-            Surface::Cylinder(c) => {
-                if is_within3(c.origin) & (is_within3(c.axis) & (is_within(c.radius) & others)) {
-                    0
-                } else {
-                    OUT_OF_RANGE
-                }
-            }
-            Surface::Cone(c) => {
-                if c.is_within() & others {
-                    0
-                } else {
-                    OUT_OF_RANGE
-                }
-            }
-            Surface::Wall(w) => w.tried(others, true),
+            Surface::Plane(p) => fails(OUT_OF_RANGE, is_within3(p.origin) & is_within3(p.normal)),
+            Surface::Cylinder(c) => fails(
+                OUT_OF_RANGE,
+                is_within3(c.origin) & (is_within3(c.axis) & is_within(c.radius)),
+            ),
+            Surface::Cone(c) => fails(OUT_OF_RANGE, c.is_within()),
+            Surface::Wall(w) => w.tried(),
         }
     }
 
@@ -112,7 +99,7 @@ impl Surface {
     pub fn plane(self) -> SurfacePlane
         ensures { λ r. ⌜ surfacePlaneDue r ≡ planeDue self ⌝ }
     {
-        let n = self.tried(true);
+        let n = self.tried();
         if n == 0 {
             match self {
                 Surface::Plane(p) => SurfacePlane::Value(p),
@@ -129,7 +116,7 @@ impl Surface {
     pub fn revolution(self) -> SurfaceCone
         ensures { λ r. ⌜ surfaceConeDue r ≡ revolutionDue self ⌝ }
     {
-        let n = self.tried(true);
+        let n = self.tried();
         if n == 0 {
             match self {
                 Surface::Plane(_) => SurfaceCone::Nothing,
@@ -156,7 +143,8 @@ impl Surface {
     pub fn moved(self, m: Rigid) -> SurfaceAnswer
         ensures { λ r. ⌜ surfaceDue r ≡ movedDue self m ⌝ }
     {
-        let n = self.tried(is_within_rigid(m));
+        let n = fails(OUT_OF_RANGE, is_within_rigid(m));
+        let n = earlier(n, self.tried());
         if n == 0 {
             settle(formula::moved(self, m))
         } else {
@@ -168,7 +156,8 @@ impl Surface {
     pub fn normal_at(self, p: Vec3) -> Vector
         ensures { λ r. ⌜ vectorDue r ≡ normalDue self p ⌝ }
     {
-        let n = self.tried(is_within3(p));
+        let n = fails(OUT_OF_RANGE, is_within3(p));
+        let n = earlier(n, self.tried());
         if n == 0 {
             vectors::settle(formula::normal(self, p))
         } else {

@@ -1,8 +1,9 @@
 -- `Trace::v`: v at u of a curve of a development that is v of u; none for a meet with `turn`, and in no other case.
 use mathlib.Core.Bool.{Bool, _&&_}
 use lib.Ieee.{Float}
+use Rattle.checked.specs.Refusals.{OUT-OF-RANGE}
 use Rattle.checked.specs.Checked.{Checked, first, _>>=_, given, finite, num, _⊘_, within, Due, due, refused, answered}
-use Rattle.checked.specs.Handed.{handed, passing}
+use Rattle.checked.specs.Tests.{fails, _or_, passing, neutralTest}
 use Rattle.waves.specs.Values as wave-values
 use Rattle.waves.specs.Entries.{waveWithin}
 use Rattle.meets.specs.declared.Turn.{Turn}
@@ -54,4 +55,4 @@ traceWithin (trace.Meet m) = meetWithin m
 
 -- `Trace::v`
 unfoldable pub vDue : Trace → Float → Float → Due (Optional Float)
-vDue t u n = passing (handed (traceWithin t && (within u && within n)) n) (answered (vC t u n))
+vDue t u n = passing (fails OUT-OF-RANGE (traceWithin t && (within u && within n)) or neutralTest n) (answered (vC t u n))

@@ -7,6 +7,7 @@ ghost use Rattle.vectors.specs.Entries.{vectorDue, coordinatesDue, dotDu
 use checked::CheckedNumber;
 use checked::Number;
 use checked::OUT_OF_RANGE;
+use checked::fails;
 use checked::is_within;
 use checked::note;
 
@@ -153,24 +154,26 @@ impl Vec3 {
     pub fn dot(self, o: Self) -> Number
         ensures { λ r. ⌜ numberDue r ≡ dotDue self o ⌝ }
     {
-        if are_within(self, o) {
+        let t = fails(OUT_OF_RANGE, are_within(self, o));
+        if t == 0 {
             let d = formula::dot(self, o);
             checked::settle(CheckedNumber {
                 refusal: note(0, d),
                 value: d,
             })
         } else {
-            Number::Refused(OUT_OF_RANGE)
+            Number::Refused(t)
         }
     }
 
     pub fn cross(self, o: Self) -> Vector
         ensures { λ r. ⌜ vectorDue r ≡ crossDue self o ⌝ }
     {
-        if are_within(self, o) {
+        let t = fails(OUT_OF_RANGE, are_within(self, o));
+        if t == 0 {
             tried(formula::cross(self, o))
         } else {
-            Vector::Refused(OUT_OF_RANGE)
+            Vector::Refused(t)
         }
     }
 
@@ -178,10 +181,11 @@ impl Vec3 {
     pub fn sum(self, o: Self) -> Vector
         ensures { λ r. ⌜ vectorDue r ≡ sumDue self o ⌝ }
     {
-        if are_within(self, o) {
+        let t = fails(OUT_OF_RANGE, are_within(self, o));
+        if t == 0 {
             tried(formula::plus(self, o))
         } else {
-            Vector::Refused(OUT_OF_RANGE)
+            Vector::Refused(t)
         }
     }
 
@@ -189,10 +193,11 @@ impl Vec3 {
     pub fn difference(self, o: Self) -> Vector
         ensures { λ r. ⌜ vectorDue r ≡ differenceDue self o ⌝ }
     {
-        if are_within(self, o) {
+        let t = fails(OUT_OF_RANGE, are_within(self, o));
+        if t == 0 {
             tried(formula::minus(self, o))
         } else {
-            Vector::Refused(OUT_OF_RANGE)
+            Vector::Refused(t)
         }
     }
 
@@ -200,10 +205,11 @@ impl Vec3 {
     pub fn negation(self) -> Vector
         ensures { λ r. ⌜ vectorDue r ≡ negationDue self ⌝ }
     {
-        if is_within3(self) {
+        let t = fails(OUT_OF_RANGE, is_within3(self));
+        if t == 0 {
             tried(formula::neg(self))
         } else {
-            Vector::Refused(OUT_OF_RANGE)
+            Vector::Refused(t)
         }
     }
 
@@ -211,38 +217,41 @@ impl Vec3 {
     pub fn times(self, k: f64) -> Vector
         ensures { λ r. ⌜ vectorDue r ≡ timesDue self k ⌝ }
     {
-        if is_within_times(self, k) {
+        let t = fails(OUT_OF_RANGE, is_within_times(self, k));
+        if t == 0 {
             tried(formula::times(self, k))
         } else {
-            Vector::Refused(OUT_OF_RANGE)
+            Vector::Refused(t)
         }
     }
 
     pub fn dominant_axis(self) -> Index
         ensures { λ r. ⌜ indexDue r ≡ dominantAxisDue self ⌝ }
     {
-        if is_within3(self) {
+        let t = fails(OUT_OF_RANGE, is_within3(self));
+        if t == 0 {
             Index::Value(largest(
                 float_bits::fabs(self.x),
                 float_bits::fabs(self.y),
                 float_bits::fabs(self.z),
             ))
         } else {
-            Index::Refused(OUT_OF_RANGE)
+            Index::Refused(t)
         }
     }
 
     pub fn to_array(self) -> Coordinates
         ensures { λ r. ⌜ coordinatesDue r ≡ toArrayDue self ⌝ }
     {
-        if is_within3(self) {
+        let t = fails(OUT_OF_RANGE, is_within3(self));
+        if t == 0 {
             Coordinates {
                 refusal: 0,
                 values: [self.x, self.y, self.z],
             }
         } else {
             Coordinates {
-                refusal: OUT_OF_RANGE,
+                refusal: t,
                 values: [0.0, 0.0, 0.0],
             }
         }

@@ -2,9 +2,15 @@
 // the case of a letter from that of a surface's case. What a program may call is here, the formulas
 // are in `formula`.
 ghost use mathlib.Core.Path.{_≡_};
-ghost use Rattle.integrals.specs.Sums.{addedDue, outcome, Lent};
+ghost use Rattle.checked.specs.Answers.{Lent};
+ghost use Rattle.integrals.specs.Sums.{addedDue, outcome};
 ghost use Rattle.walls.specs.Entries.{wallWithin, wallTests, wallDue};
-use checked::face_tests::tried;
+use checked::ARC_AND_TRACE;
+use checked::BAD_BOX_OR_SUMS;
+use checked::OUT_OF_RANGE;
+use checked::earlier;
+use checked::fails;
+use checked::tried_neutral;
 use integrals::Added;
 use integrals::Integrals;
 use integrals::Outcome;
@@ -38,14 +44,11 @@ fn tried_wall(acc: Integrals, p: Rolled, r0: f64, r1: f64, o: Vec3) -> u8
     ensures { λ r. ⌜ r ≡ wallTests p r0 r1 o acc ⌝ }
 {
     let a = p.arc;
-    let t = p.trace;
-    tried(
-        is_wall_within(p, r0, r1, o),
-        0.0 < p.dev.neutral,
-        !are_both(a, t),
-        acc.is_finite(),
-        true,
-    )
+    let b = p.trace;
+    let t = fails(OUT_OF_RANGE, is_wall_within(p, r0, r1, o));
+    let t = earlier(t, tried_neutral(p.dev.neutral));
+    let t = earlier(t, fails(ARC_AND_TRACE, !are_both(a, b)));
+    earlier(t, fails(BAD_BOX_OR_SUMS, acc.is_finite()))
 }
 
 // The sums of a body with those of the wall over a piece added, from r0 to r1 from the axis of its

@@ -1,8 +1,9 @@
 -- What the entries on waves are due to answer.
 use mathlib.Core.Bool.{Bool, _&&_}
 use lib.Ieee.{Float}
+use Rattle.checked.specs.Refusals.{OUT-OF-RANGE}
 use Rattle.checked.specs.Checked.{within, Due, due, refused, answered}
-use Rattle.checked.specs.Handed.{handed, passing}
+use Rattle.checked.specs.Tests.{fails, _or_, passing, neutralTest}
 use Rattle.waves.specs.declared.values.Jet.{Jet}
 use Rattle.waves.specs.Values.{jetC}
 use Rattle.waves.specs.declared.turning_points.Span.{Span}
@@ -29,8 +30,8 @@ waveWithin w = within (w .a) && (within (w .b) && within (w .c))
 
 -- `Wave::at`
 unfoldable pub atDue : Wave → Float → Float → Due Jet
-atDue w u n = passing (handed (waveWithin w && (within u && within n)) n) (answered (jetC (w .a) (w .b) (w .c) u n))
+atDue w u n = passing (fails OUT-OF-RANGE (waveWithin w && (within u && within n)) or neutralTest n) (answered (jetC (w .a) (w .b) (w .c) u n))
 
 -- `Wave::range`
 unfoldable pub rangeDue : Wave → Float → Float → Float → Due Span
-rangeDue w u0 u1 n = passing (handed (waveWithin w && (within u0 && (within u1 && within n))) n) (answered (rangeC (w .a) (w .b) (w .c) u0 u1 n))
+rangeDue w u0 u1 n = passing (fails OUT-OF-RANGE (waveWithin w && (within u0 && (within u1 && within n))) or neutralTest n) (answered (rangeC (w .a) (w .b) (w .c) u0 u1 n))

@@ -38,7 +38,7 @@ use Rattle.arcs.specs.Cuts.{chordWithin, cutC, innerC, innersDue}
 use Rattle.arcs.specs.declared.Arc.{Arc}
 use Rattle.arcs.specs.Arcs.{reversedC}
 use Rattle.arcs.specs.Entries.{reversedDue, sweepDue, extendDue, innerPointsDue}
-use Rattle.checked.specs.Handed.{handed, passing}
+use Rattle.checked.specs.Tests.{fails, passing, neutralTest, chordTest}
 use Rattle.waves.specs.Values.{jetC}
 use Rattle.waves.specs.declared.Wave.{Wave}
 use Rattle.waves.specs.Entries.{waveWithin, atDue}
@@ -60,7 +60,7 @@ use Rattle.piece_curves.specs.Points as run-points
 use Rattle.piece_lengths.specs.Measures.{distanceC}
 use Rattle.piece_boxes.specs.CurveBoxes as run-boxes
 use Rattle.piece_lengths.specs.Counts.{steepC, offC, waveLineC, polylineC}
-use Rattle.pieces.specs.Tests.{arcWithin, followedWithin, isTraced, both, handedPiece}
+use Rattle.pieces.specs.Tests.{arcWithin, followedWithin, isTraced, both}
 use Rattle.pieces.specs.declared.Rolled.{Rolled}
 use Rattle.pieces.specs.Pieces.{runC}
 use Rattle.pieces.specs.Entries as pieces
@@ -225,5 +225,5 @@ cases =
 
 -- every case computes
 pub all-hold : All cases
-unfolding cases add sub mul div neg lt le eq isNan ofBits toBits first isFinite nine within settled fabs signed choose sqrt reduced atan isOne ratioAngle angle atan2 negative least greatest within2 within3 plusC minusC timesC negC crossC dotC lesser greater widened widenedBy numbers free boxCall lengthC acrossC aheadC backC apartC turnC turnDue sweepFromC sweepC sideC takenC bothC extremesC pointsC circleWithin endsWithin chordWithin sweepDue extendDue reversedC reversedDue inBytes number point arcRecord signedWhole thousandths spelled digits numeral bytes spaced corner emptyLine refusedLine boxLine lowFirst numberAt pointAt tagged headOf kindOf edgeOf recordOf sizeOf next printed ended lineFrom lineOf ofInt toUnsigned toSigned eight ceil secondRound medium toFive toNine remPio2 turnedSines sines sinesOrZeros acosFar acosNear acos quotientC chordsC clamped perTurnC limitedC countC upTo spokeC turnedC atC cutC innerC innersDue innerPointsDue handed passing jetC waveWithin atDue ownC lesserC reachC zC pipeC heightC turnWithin meetWithin meetHeightC meetC vC traceWithin vDue hypotenuse.greater hypotenuse.lesser hypotenuse.hypotOrdered hypot developmentWithin runs.tracedC runs.untraced runs.wayC runs.runC run-points.straightC run-points.atC distanceC run-boxes.ends run-boxes.arcC run-boxes.boxC steepC offC waveLineC polylineC arcWithin followedWithin isTraced both handedPiece runC pieces.pieceWithin pieces.tests pieces.atDue pieces.uvBoxDue pieces.polylineDue
+unfolding cases add sub mul div neg lt le eq isNan ofBits toBits first isFinite nine within settled fabs signed choose sqrt reduced atan isOne ratioAngle angle atan2 negative least greatest within2 within3 plusC minusC timesC negC crossC dotC lesser greater widened widenedBy numbers free boxCall lengthC acrossC aheadC backC apartC turnC turnDue sweepFromC sweepC sideC takenC bothC extremesC pointsC circleWithin endsWithin chordWithin sweepDue extendDue reversedC reversedDue inBytes number point arcRecord signedWhole thousandths spelled digits numeral bytes spaced corner emptyLine refusedLine boxLine lowFirst numberAt pointAt tagged headOf kindOf edgeOf recordOf sizeOf next printed ended lineFrom lineOf ofInt toUnsigned toSigned eight ceil secondRound medium toFive toNine remPio2 turnedSines sines sinesOrZeros acosFar acosNear acos quotientC chordsC clamped perTurnC limitedC countC upTo spokeC turnedC atC cutC innerC innersDue innerPointsDue fails passing neutralTest chordTest jetC waveWithin atDue ownC lesserC reachC zC pipeC heightC turnWithin meetWithin meetHeightC meetC vC traceWithin vDue hypotenuse.greater hypotenuse.lesser hypotenuse.hypotOrdered hypot developmentWithin runs.tracedC runs.untraced runs.wayC runs.runC run-points.straightC run-points.atC distanceC run-boxes.ends run-boxes.arcC run-boxes.boxC steepC offC waveLineC polylineC arcWithin followedWithin isTraced both runC pieces.pieceWithin pieces.tests pieces.atDue pieces.uvBoxDue pieces.polylineDue
 all-hold = (refl, (refl, (refl, (refl, (refl, (refl, (refl, (refl, (refl, (refl, (refl, (refl, (refl, (refl, (refl, (refl, (refl, (refl, (refl, tt)))))))))))))))))))

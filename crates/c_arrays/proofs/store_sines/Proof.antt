@@ -1,7 +1,7 @@
 use borrow.Author.Needs.{needs}
 use Rattle.checked.specs.Laws.{settled-some, settled-none}
 use Rattle.libm.specs.declared.sincos.Sines.{Sines}
-use Rattle.c_arrays.specs.Records.{numberOf, after, over}
+use Rattle.c_arrays.specs.Records.{after, over}
 use Rattle.c_arrays.proofs.store_sines.Statement.{statement}
 use Rattle.c_arrays.proofs.store_sines.Tie as tie
 
@@ -12,14 +12,14 @@ element-write-out-2 : tie.Need-element-write-out-2
 element-write-out-2 c = search needs
 
 returns : tie.Need-returns
-unfolding numberOf after over
+unfolding after over
 returns c = (simp (c .if1 .taken, settled-none), simp (c .if1 .taken, settled-none))
 
 cast-result : tie.Need-cast-result
 cast-result c = search needs
 
 returns-2 : tie.Need-returns-2
-unfolding numberOf after over
+unfolding after over
 returns-2 c =
     let a = c .before .args .a in
     let e = settled-some {A = Sines} (a .refusal) (record { sin = a .sin; cos = a .cos }) (c .if1 .left) in

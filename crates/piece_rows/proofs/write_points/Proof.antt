@@ -1,7 +1,7 @@
 use mathlib.Core.Path.{_≡_, sym, _∙_, ap}
 use borrow.Author.Needs.{needs}
 use lib.ListN.{length}
-use Rattle.rows.specs.Rows.{numberOf}
+use Rattle.checked.specs.Answers.{numberOf}
 use Rattle.rows.specs.Rows.{point}
 use Rattle.rows.specs.Laws.{part-length, part-refused}
 use Rattle.piece_rows.specs.Inner.{innersDue}

@@ -1,8 +1,8 @@
-use mathlib.Core.Path.{sym}
 use borrow.Author.Needs.{needs}
-use Rattle.checked.specs.HandedLaws.{passing-none, passing-some}
 use Rattle.revolutions.specs.Revolutions.{addDue}
 use Rattle.revolutions.specs.Laws.{piece-is}
+use Rattle.checked.specs.TestsLaws.{passing-none, passing-some}
+use mathlib.Core.Path.{sym}
 use Rattle.revolutions.proofs.add_piece.Statement.{statement}
 use Rattle.revolutions.proofs.add_piece.Tie as tie
 

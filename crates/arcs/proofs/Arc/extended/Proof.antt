@@ -1,16 +1,26 @@
 use borrow.Author.Needs.{needs}
 use Rattle.arcs.specs.Entries.{extendDue}
 use Rattle.checked.specs.Laws.{rules as checked-rules}
-use Rattle.boxes.specs.Laws.{rules as boxes-rules}
-use mathlib.Core.Path.{sym, _∙_}
+use Rattle.boxes.specs.Laws.{call-is}
+use Rattle.checked.specs.TestsLaws.{passing-none, passing-some}
+use mathlib.Core.Path.{sym}
 use Rattle.arcs.proofs.Arc.extended.Statement.{statement}
 use Rattle.arcs.proofs.Arc.extended.Tie as tie
 
 ends-within-requires : tie.Need-ends-within-requires
 ends-within-requires c κs = search needs
 
+fails-requires : tie.Need-fails-requires
+fails-requires c κs = search needs
+
 is-free-requires : tie.Need-is-free-requires
 is-free-requires c κs = search needs
+
+fails-requires-2 : tie.Need-fails-requires-2
+fails-requires-2 c κs = search needs
+
+earlier-requires : tie.Need-earlier-requires
+earlier-requires c κs = search needs
 
 extended-requires : tie.Need-extended-requires
 extended-requires c κs = search needs
@@ -20,24 +30,22 @@ settle-requires c κs = search needs
 
 returns : tie.Need-returns
 unfolding extendDue
-returns c = simp (c .settle .ensures, c .before .extended .ensures .0, c .before .extended .ensures .1, sym (c .before .before .before .is-free .ensures) ∙ c .before .before .if2 .taken, sym (c .before .before .before .before .before .ends-within .ensures) ∙ c .before .before .before .before .if1 .taken, checked-rules, boxes-rules)
+returns c = simp (c .settle .ensures, c .before .extended .ensures .0, c .before .extended .ensures .1, c .before .before .if1 .taken, passing-none, ← c .before .before .before .earlier .ensures, ← c .before .before .before .before .fails2 .ensures, ← c .before .before .before .before .before .is-free .ensures, ← c .before .before .before .before .before .before .fails .ensures, ← c .before .before .before .before .before .before .before .ends-within .ensures, call-is, checked-rules)
 
 returns-2 : tie.Need-returns-2
 unfolding extendDue
-returns-2 c = simp (sym (c .before .is-free .ensures) ∙ c .if2 .left, sym (c .before .before .before .ends-within .ensures) ∙ c .before .before .if1 .taken, boxes-rules)
-
-returns-3 : tie.Need-returns-3
-unfolding extendDue
-returns-3 c = simp (sym (c .before .ends-within .ensures) ∙ c .if1 .left, boxes-rules)
+returns-2 c = simp (call-is, ← c .before .earlier .ensures, ← c .before .before .fails2 .ensures, ← c .before .before .before .is-free .ensures, ← c .before .before .before .before .fails .ensures, ← c .before .before .before .before .before .ends-within .ensures) (sym (passing-some _ _ (c .if1 .left)))
 
 pub extended-spec : {M : Type 1} → statement M
 extended-spec =
     tie.close
     (tie.spec
     ends-within-requires
+    fails-requires
     is-free-requires
+    fails-requires-2
+    earlier-requires
     extended-requires
     settle-requires
     returns
-    returns-2
-    returns-3)
+    returns-2)

@@ -1,11 +1,15 @@
 use borrow.Author.Needs.{needs}
 use Rattle.arcs.specs.Entries.{reversedDue}
-use mathlib.Core.Path.{sym, _∙_}
+use Rattle.checked.specs.TestsLaws.{passing-none, passing-some}
+use mathlib.Core.Path.{sym}
 use Rattle.arcs.proofs.Arc.reversed.Statement.{statement}
 use Rattle.arcs.proofs.Arc.reversed.Tie as tie
 
 circle-within-requires : tie.Need-circle-within-requires
 circle-within-requires c κs = search needs
+
+fails-requires : tie.Need-fails-requires
+fails-requires c κs = search needs
 
 reversed-requires : tie.Need-reversed-requires
 reversed-requires c κs = search needs
@@ -15,12 +19,12 @@ settle-requires c κs = search needs
 
 returns : tie.Need-returns
 unfolding reversedDue
-returns c = simp (c .settle .ensures, c .before .reversed .ensures .0, c .before .reversed .ensures .1, sym (c .before .before .before .circle-within .ensures) ∙ c .before .before .if1 .taken)
+returns c = simp (c .settle .ensures, c .before .reversed .ensures .0, c .before .reversed .ensures .1, c .before .before .if1 .taken, passing-none, ← c .before .before .before .fails .ensures, ← c .before .before .before .before .circle-within .ensures)
 
 returns-2 : tie.Need-returns-2
 unfolding reversedDue
-returns-2 c = simp (sym (c .before .circle-within .ensures) ∙ c .if1 .left)
+returns-2 c = simp (← c .before .fails .ensures, ← c .before .before .circle-within .ensures) (sym (passing-some _ _ (c .if1 .left)))
 
 pub reversed-spec : {M : Type 1} → statement M
 reversed-spec =
-    tie.close (tie.spec circle-within-requires reversed-requires settle-requires returns returns-2)
+    tie.close (tie.spec circle-within-requires fails-requires reversed-requires settle-requires returns returns-2)

@@ -1,11 +1,15 @@
 use borrow.Author.Needs.{needs}
 use Rattle.arcs.specs.Entries.{sweepDue}
-use mathlib.Core.Path.{sym, _∙_}
+use Rattle.checked.specs.TestsLaws.{passing-none, passing-some}
+use mathlib.Core.Path.{sym}
 use Rattle.arcs.proofs.Arc.sweep.Statement.{statement}
 use Rattle.arcs.proofs.Arc.sweep.Tie as tie
 
 ends-within-requires : tie.Need-ends-within-requires
 ends-within-requires c κs = search needs
+
+fails-requires : tie.Need-fails-requires
+fails-requires c κs = search needs
 
 sweep-requires : tie.Need-sweep-requires
 sweep-requires c κs = search needs
@@ -15,12 +19,12 @@ settle-requires c κs = search needs
 
 returns : tie.Need-returns
 unfolding sweepDue
-returns c = simp (c .settle .ensures, c .before .sweep .ensures .0, c .before .sweep .ensures .1, sym (c .before .before .before .ends-within .ensures) ∙ c .before .before .if1 .taken)
+returns c = simp (c .settle .ensures, c .before .sweep .ensures .0, c .before .sweep .ensures .1, c .before .before .if1 .taken, passing-none, ← c .before .before .before .fails .ensures, ← c .before .before .before .before .ends-within .ensures)
 
 returns-2 : tie.Need-returns-2
 unfolding sweepDue
-returns-2 c = simp (sym (c .before .ends-within .ensures) ∙ c .if1 .left)
+returns-2 c = simp (← c .before .fails .ensures, ← c .before .before .ends-within .ensures) (sym (passing-some _ _ (c .if1 .left)))
 
 pub sweep-spec : {M : Type 1} → statement M
 sweep-spec =
-    tie.close (tie.spec ends-within-requires sweep-requires settle-requires returns returns-2)
+    tie.close (tie.spec ends-within-requires fails-requires sweep-requires settle-requires returns returns-2)

@@ -1,8 +1,8 @@
 use mathlib.Core.Path.{_≡_, refl, sym, _∙_, ap}
 use borrow.Author.Needs.{needs}
 use lib.ListN.{length}
-use Rattle.rows.specs.Rows.{numberOf, allDue}
-use Rattle.rows.specs.Rows.{point}
+use Rattle.checked.specs.Answers.{numberOf}
+use Rattle.rows.specs.Rows.{allDue, point}
 use Rattle.rows.specs.Laws.{part-length, part-refused}
 use Rattle.arcs.specs.Cuts.{innersDue}
 use Rattle.arcs.specs.ChordsLaws.{inners-are}

@@ -1,4 +1,4 @@
-use Rattle.c_arrays.specs.Records.{numberOf, after}
+use Rattle.c_arrays.specs.Records.{after}
 use borrow.Author.Needs.{needs}
 use Rattle.c_arrays.proofs.arc_records.store_arc.Statement.{statement}
 use Rattle.c_arrays.proofs.arc_records.store_arc.Tie as tie
@@ -16,11 +16,11 @@ cast-result : tie.Need-cast-result
 cast-result c = search needs
 
 returns : tie.Need-returns
-unfolding numberOf after
+unfolding after
 returns c = (simp (c .before .before .before .a .given .1), simp (c .put-arc .ensures, c .before .before .before .a .given .1))
 
 returns-2 : tie.Need-returns-2
-unfolding numberOf after
+unfolding after
 returns-2 c = (simp (c .before .a2 .given .1), simp (c .before .a2 .given .1))
 
 pub store-arc-spec : {M : Type 1} → statement M

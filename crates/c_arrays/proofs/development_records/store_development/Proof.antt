@@ -1,4 +1,4 @@
-use Rattle.c_arrays.specs.Records.{numberOf, after}
+use Rattle.c_arrays.specs.Records.{after}
 use borrow.Author.Needs.{needs}
 use Rattle.c_arrays.proofs.development_records.store_development.Statement.{statement}
 use Rattle.c_arrays.proofs.development_records.store_development.Tie as tie
@@ -16,11 +16,11 @@ cast-result : tie.Need-cast-result
 cast-result c = search needs
 
 returns : tie.Need-returns
-unfolding numberOf after
+unfolding after
 returns c = (simp (c .before .before .before .m .given .1), simp (c .put-development .ensures, c .before .before .before .m .given .1))
 
 returns-2 : tie.Need-returns-2
-unfolding numberOf after
+unfolding after
 returns-2 c = (simp (c .before .m2 .given .1), simp (c .before .m2 .given .1))
 
 pub store-development-spec : {M : Type 1} → statement M

@@ -1,5 +1,5 @@
 use borrow.Author.Needs.{needs}
-use Rattle.c_arrays.specs.Records.{numberOf, after, over}
+use Rattle.c_arrays.specs.Records.{after, over}
 use Rattle.c_arrays.specs.TraceRecords.{someDue}
 use Rattle.c_arrays.proofs.trace_records.store_height.Statement.{statement}
 use Rattle.c_arrays.proofs.trace_records.store_height.Tie as tie
@@ -20,15 +20,15 @@ cast-result : tie.Need-cast-result
 cast-result c = search needs
 
 returns : tie.Need-returns
-unfolding numberOf after over someDue
+unfolding after over someDue
 returns c = (simp (c .before .h .given .1), simp (c .before .h .given .1))
 
 returns-2 : tie.Need-returns-2
-unfolding numberOf after over someDue
+unfolding after over someDue
 returns-2 c = (simp (c .enum-told .given .1), simp (c .enum-told .given .1))
 
 returns-3 : tie.Need-returns-3
-unfolding numberOf after over someDue
+unfolding after over someDue
 returns-3 c = (simp (c .before .h2 .given .1), simp (c .before .h2 .given .1))
 
 pub store-height-spec : {M : Type 1} → statement M

@@ -1,11 +1,15 @@
 use borrow.Author.Needs.{needs}
 use Rattle.cones.specs.Entries.{angleDue}
-use mathlib.Core.Path.{sym, _∙_}
+use Rattle.checked.specs.TestsLaws.{passing-none, passing-some}
+use mathlib.Core.Path.{sym}
 use Rattle.cones.proofs.Frame.angle.Statement.{statement}
 use Rattle.cones.proofs.Frame.angle.Tie as tie
 
 is-within-with-requires : tie.Need-is-within-with-requires
 is-within-with-requires c κs = search needs
+
+fails-requires : tie.Need-fails-requires
+fails-requires c κs = search needs
 
 angle-requires : tie.Need-angle-requires
 angle-requires c κs = search needs
@@ -15,12 +19,12 @@ settle-requires c κs = search needs
 
 returns : tie.Need-returns
 unfolding angleDue
-returns c = simp (c .settle .ensures, c .before .angle .ensures .0, c .before .angle .ensures .1, sym (c .before .before .before .is-within-with .ensures) ∙ c .before .before .if1 .taken)
+returns c = simp (c .settle .ensures, c .before .angle .ensures .0, c .before .angle .ensures .1, c .before .before .if1 .taken, passing-none, ← c .before .before .before .fails .ensures, ← c .before .before .before .before .is-within-with .ensures)
 
 returns-2 : tie.Need-returns-2
 unfolding angleDue
-returns-2 c = simp (sym (c .before .is-within-with .ensures) ∙ c .if1 .left)
+returns-2 c = simp (← c .before .fails .ensures, ← c .before .before .is-within-with .ensures) (sym (passing-some _ _ (c .if1 .left)))
 
 pub angle-spec : {M : Type 1} → statement M
 angle-spec =
-    tie.close (tie.spec is-within-with-requires angle-requires settle-requires returns returns-2)
+    tie.close (tie.spec is-within-with-requires fails-requires angle-requires settle-requires returns returns-2)

@@ -1,7 +1,7 @@
 use borrow.Author.Needs.{needs}
 use Rattle.curves.specs.Curves.{arcOf}
 use Rattle.curves.specs.Entries.{arcDue}
-use Rattle.checked.specs.HandedLaws.{passing-none, passing-some}
+use Rattle.checked.specs.TestsLaws.{passing-none, passing-some}
 use mathlib.Core.Path.{sym}
 use Rattle.curves.proofs.Curve.arc.Statement.{statement}
 use Rattle.curves.proofs.Curve.arc.Tie as tie

@@ -1,6 +1,6 @@
 use borrow.Author.Needs.{needs}
 use Rattle.curves.specs.Entries.{reversedDue}
-use Rattle.checked.specs.HandedLaws.{passing-none, passing-some}
+use Rattle.checked.specs.TestsLaws.{passing-none, passing-some}
 use mathlib.Core.Path.{sym}
 use Rattle.curves.proofs.Curve.reversed.Statement.{statement}
 use Rattle.curves.proofs.Curve.reversed.Tie as tie

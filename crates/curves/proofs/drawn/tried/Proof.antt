@@ -15,12 +15,24 @@ is-within3-requires-2 c κs = search needs
 is-within-requires-2 : tie.Need-is-within-requires-2
 is-within-requires-2 c κs = search needs
 
+fails-requires : tie.Need-fails-requires
+fails-requires c κs = search needs
+
 tried-requires : tie.Need-tried-requires
 tried-requires c κs = search needs
 
+earlier-requires : tie.Need-earlier-requires
+earlier-requires c κs = search needs
+
+tried-chord-requires : tie.Need-tried-chord-requires
+tried-chord-requires c κs = search needs
+
+earlier-requires-2 : tie.Need-earlier-requires-2
+earlier-requires-2 c κs = search needs
+
 returns : tie.Need-returns
 unfolding tests
-returns c = simp (c .tried .ensures, ← c .before .is-within2 .ensures, ← c .before .before .is-within32 .ensures, ← c .before .before .before .is-within3 .ensures, ← c .before .before .before .before .is-within .ensures)
+returns c = simp (c .earlier2 .ensures, c .before .tried-chord .ensures, c .before .before .earlier .ensures, c .before .before .before .tried .ensures, c .before .before .before .before .fails .ensures, c .before .before .before .before .before .is-within2 .ensures, c .before .before .before .before .before .before .is-within32 .ensures, c .before .before .before .before .before .before .before .is-within3 .ensures, c .before .before .before .before .before .before .before .before .is-within .ensures)
 
 pub tried-spec : {M : Type 1} → statement M
 tried-spec =
@@ -30,5 +42,9 @@ tried-spec =
     is-within3-requires
     is-within3-requires-2
     is-within-requires-2
+    fails-requires
     tried-requires
+    earlier-requires
+    tried-chord-requires
+    earlier-requires-2
     returns)

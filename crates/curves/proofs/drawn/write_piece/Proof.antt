@@ -2,11 +2,10 @@ use mathlib.Core.Path.{_≡_, sym, _∙_}
 use borrow.Author.Needs.{needs}
 use Rattle.checked.specs.Checked.{Checked}
 use Rattle.checked.specs.Laws.{settled-none, settled-some}
-use Rattle.checked.specs.HandedLaws.{passing-none}
+use Rattle.checked.specs.TestsLaws.{passing-none}
 use Rattle.rows.specs.Rows.{point}
-use Rattle.rows.specs.Laws.{drawn-refused}
+use Rattle.rows.specs.Laws.{drawn-refused, drawn-failed}
 use Rattle.curves.specs.DrawnEntries.{chordsOf, pieceDue}
-use Rattle.curves.specs.DrawnLaws.{drawn-failed}
 use Rattle.curves.proofs.drawn.write_piece.Statement.{statement}
 use Rattle.curves.proofs.drawn.write_piece.Tie as tie
 
@@ -44,7 +43,7 @@ returns-2 c =
 
 returns-3 : tie.Need-returns-3
 unfolding pieceDue
-returns-3 c = simp (← c .before .tried .ensures) (drawn-failed _ _ _ (c .if1 .left))
+returns-3 c = simp (← c .before .tried .ensures) (drawn-failed point _ _ _ (c .if1 .left))
 
 pub write-piece-spec : {M : Type 1} → statement M
 write-piece-spec =

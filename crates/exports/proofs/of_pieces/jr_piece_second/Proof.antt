@@ -1,6 +1,6 @@
 use mathlib.Core.Path.{sym, _∙_}
 use borrow.Author.Needs.{needs}
-use Rattle.c_arrays.specs.Records.{numberOf, after}
+use Rattle.c_arrays.specs.Records.{after}
 use Rattle.exports.proofs.of_pieces.jr_piece_second.Statement.{statement}
 use Rattle.exports.proofs.of_pieces.jr_piece_second.Tie as tie
 
@@ -20,7 +20,7 @@ returns : tie.Need-returns
 returns c = simp (sym (c .before .before .before .before .before .is-piece .ensures) ∙ c .before .before .before .before .if1 .taken) (simp (c .before .before .second .ensures, c .before .before .before .piece-of .ensures) at (c .store-second .ensures))
 
 returns-2 : tie.Need-returns-2
-unfolding numberOf after
+unfolding after
 returns-2 c = (simp (sym (c .before .is-piece .ensures) ∙ c .if1 .left), simp (sym (c .before .is-piece .ensures) ∙ c .if1 .left))
 
 pub jr-piece-second-spec : {M : Type 1} → statement M

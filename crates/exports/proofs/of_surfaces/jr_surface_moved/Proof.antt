@@ -1,6 +1,5 @@
 use mathlib.Core.Path.{sym, _∙_}
 use borrow.Author.Needs.{needs}
-use Rattle.c_arrays.specs.Records.{numberOf}
 use Rattle.c_shapes.specs.Stores.{stored}
 use Rattle.exports.proofs.of_surfaces.jr_surface_moved.Statement.{statement}
 use Rattle.exports.proofs.of_surfaces.jr_surface_moved.Tie as tie
@@ -24,7 +23,7 @@ returns : tie.Need-returns
 returns c = simp (sym (c .before .before .before .before .before .before .is-surface .ensures) ∙ c .before .before .before .before .before .if1 .taken) (simp (c .before .before .moved .ensures, c .before .before .before .rigid-of .ensures, c .before .before .before .before .surface-of .ensures) at (c .store-surface .ensures))
 
 returns-2 : tie.Need-returns-2
-unfolding numberOf stored
+unfolding stored
 returns-2 c = (simp (sym (c .before .is-surface .ensures) ∙ c .if1 .left), simp (sym (c .before .is-surface .ensures) ∙ c .if1 .left))
 
 pub jr-surface-moved-spec : {M : Type 1} → statement M

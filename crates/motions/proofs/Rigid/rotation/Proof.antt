@@ -1,11 +1,15 @@
 use borrow.Author.Needs.{needs}
 use Rattle.motions.specs.Motions.{rotationDue}
-use mathlib.Core.Path.{sym, _∙_}
+use Rattle.checked.specs.TestsLaws.{passing-none, passing-some}
+use mathlib.Core.Path.{sym}
 use Rattle.motions.proofs.Rigid.rotation.Statement.{statement}
 use Rattle.motions.proofs.Rigid.rotation.Tie as tie
 
 is-within-turn-requires : tie.Need-is-within-turn-requires
 is-within-turn-requires c κs = search needs
+
+fails-requires : tie.Need-fails-requires
+fails-requires c κs = search needs
 
 rotation-requires : tie.Need-rotation-requires
 rotation-requires c κs = search needs
@@ -15,13 +19,19 @@ settle-requires c κs = search needs
 
 returns : tie.Need-returns
 unfolding rotationDue
-returns c = simp (c .settle .ensures, c .before .rotation .ensures .0, c .before .rotation .ensures .1, sym (c .before .before .before .is-within-turn .ensures) ∙ c .before .before .if1 .taken)
+returns c = simp (c .settle .ensures, c .before .rotation .ensures .0, c .before .rotation .ensures .1, c .before .before .if1 .taken, passing-none, ← c .before .before .before .fails .ensures, ← c .before .before .before .before .is-within-turn .ensures)
 
 returns-2 : tie.Need-returns-2
 unfolding rotationDue
-returns-2 c = simp (sym (c .before .is-within-turn .ensures) ∙ c .if1 .left)
+returns-2 c = simp (← c .before .fails .ensures, ← c .before .before .is-within-turn .ensures) (sym (passing-some _ _ (c .if1 .left)))
 
 pub rotation-spec : {M : Type 1} → statement M
 rotation-spec =
     tie.close
-    (tie.spec is-within-turn-requires rotation-requires settle-requires returns returns-2)
+    (tie.spec
+    is-within-turn-requires
+    fails-requires
+    rotation-requires
+    settle-requires
+    returns
+    returns-2)

@@ -1,6 +1,6 @@
 use borrow.Author.Needs.{needs}
 use Rattle.pieces.specs.Entries.{atDue}
-use Rattle.checked.specs.HandedLaws.{passing-none, passing-some}
+use Rattle.checked.specs.TestsLaws.{passing-none, passing-some}
 use mathlib.Core.Path.{sym}
 use Rattle.pieces.proofs.Rolled.at.Statement.{statement}
 use Rattle.pieces.proofs.Rolled.at.Tie as tie
@@ -8,8 +8,14 @@ use Rattle.pieces.proofs.Rolled.at.Tie as tie
 is-within-requires : tie.Need-is-within-requires
 is-within-requires c κs = search needs
 
+fails-requires : tie.Need-fails-requires
+fails-requires c κs = search needs
+
 tried-requires : tie.Need-tried-requires
 tried-requires c κs = search needs
+
+earlier-requires : tie.Need-earlier-requires
+earlier-requires c κs = search needs
 
 at-requires : tie.Need-at-requires
 at-requires c κs = search needs
@@ -19,18 +25,20 @@ settle-place-requires c κs = search needs
 
 returns : tie.Need-returns
 unfolding atDue
-returns c = simp (c .settle-place .ensures, c .before .at .ensures .0, c .before .at .ensures .1, c .before .before .if1 .taken, passing-none, ← c .before .before .before .tried .ensures, ← c .before .before .before .before .is-within .ensures)
+returns c = simp (c .settle-place .ensures, c .before .at .ensures .0, c .before .at .ensures .1, c .before .before .if1 .taken, passing-none, ← c .before .before .before .earlier .ensures, ← c .before .before .before .before .tried .ensures, ← c .before .before .before .before .before .fails .ensures, ← c .before .before .before .before .before .before .is-within .ensures)
 
 returns-2 : tie.Need-returns-2
 unfolding atDue
-returns-2 c = simp (← c .before .tried .ensures, ← c .before .before .is-within .ensures) (sym (passing-some _ _ (c .if1 .left)))
+returns-2 c = simp (← c .before .earlier .ensures, ← c .before .before .tried .ensures, ← c .before .before .before .fails .ensures, ← c .before .before .before .before .is-within .ensures) (sym (passing-some _ _ (c .if1 .left)))
 
 pub at-spec : {M : Type 1} → statement M
 at-spec =
     tie.close
     (tie.spec
     is-within-requires
+    fails-requires
     tried-requires
+    earlier-requires
     at-requires
     settle-place-requires
     returns

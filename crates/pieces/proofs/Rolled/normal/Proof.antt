@@ -1,6 +1,6 @@
 use borrow.Author.Needs.{needs}
 use Rattle.pieces.specs.Entries.{normalDue}
-use Rattle.checked.specs.HandedLaws.{passing-none, passing-some}
+use Rattle.checked.specs.TestsLaws.{passing-none, passing-some}
 use mathlib.Core.Path.{sym}
 use Rattle.pieces.proofs.Rolled.normal.Statement.{statement}
 use Rattle.pieces.proofs.Rolled.normal.Tie as tie
@@ -11,8 +11,14 @@ is-within2-requires c κs = search needs
 is-within-requires : tie.Need-is-within-requires
 is-within-requires c κs = search needs
 
+fails-requires : tie.Need-fails-requires
+fails-requires c κs = search needs
+
 tried-requires : tie.Need-tried-requires
 tried-requires c κs = search needs
+
+earlier-requires : tie.Need-earlier-requires
+earlier-requires c κs = search needs
 
 normal-requires : tie.Need-normal-requires
 normal-requires c κs = search needs
@@ -22,11 +28,11 @@ settle-requires c κs = search needs
 
 returns : tie.Need-returns
 unfolding normalDue
-returns c = simp (c .settle .ensures, c .before .normal .ensures .0, c .before .normal .ensures .1, c .before .before .if1 .taken, passing-none, ← c .before .before .before .tried .ensures, ← c .before .before .before .before .is-within .ensures, ← c .before .before .before .before .before .is-within2 .ensures)
+returns c = simp (c .settle .ensures, c .before .normal .ensures .0, c .before .normal .ensures .1, c .before .before .if1 .taken, passing-none, ← c .before .before .before .earlier .ensures, ← c .before .before .before .before .tried .ensures, ← c .before .before .before .before .before .fails .ensures, ← c .before .before .before .before .before .before .is-within .ensures, ← c .before .before .before .before .before .before .before .is-within2 .ensures)
 
 returns-2 : tie.Need-returns-2
 unfolding normalDue
-returns-2 c = simp (← c .before .tried .ensures, ← c .before .before .is-within .ensures, ← c .before .before .before .is-within2 .ensures) (sym (passing-some _ _ (c .if1 .left)))
+returns-2 c = simp (← c .before .earlier .ensures, ← c .before .before .tried .ensures, ← c .before .before .before .fails .ensures, ← c .before .before .before .before .is-within .ensures, ← c .before .before .before .before .before .is-within2 .ensures) (sym (passing-some _ _ (c .if1 .left)))
 
 pub normal-spec : {M : Type 1} → statement M
 normal-spec =
@@ -34,7 +40,9 @@ normal-spec =
     (tie.spec
     is-within2-requires
     is-within-requires
+    fails-requires
     tried-requires
+    earlier-requires
     normal-requires
     settle-requires
     returns

@@ -1,6 +1,6 @@
 use borrow.Author.Needs.{needs}
 use Rattle.pieces.specs.Entries.{secondDue}
-use Rattle.checked.specs.HandedLaws.{passing-none, passing-some}
+use Rattle.checked.specs.TestsLaws.{passing-none, passing-some}
 use mathlib.Core.Path.{sym}
 use Rattle.pieces.proofs.Rolled.second.Statement.{statement}
 use Rattle.pieces.proofs.Rolled.second.Tie as tie
@@ -8,8 +8,14 @@ use Rattle.pieces.proofs.Rolled.second.Tie as tie
 is-within-requires : tie.Need-is-within-requires
 is-within-requires c κs = search needs
 
+fails-requires : tie.Need-fails-requires
+fails-requires c κs = search needs
+
 tried-requires : tie.Need-tried-requires
 tried-requires c κs = search needs
+
+earlier-requires : tie.Need-earlier-requires
+earlier-requires c κs = search needs
 
 run-requires : tie.Need-run-requires
 run-requires c κs = search needs
@@ -22,18 +28,20 @@ settle-second-requires c κs = search needs
 
 returns : tie.Need-returns
 unfolding secondDue
-returns c = simp (c .settle-second .ensures, c .before .second .ensures .0, c .before .second .ensures .1, c .before .before .before .run .ensures .0, c .before .before .before .run .ensures .1, c .before .before .before .before .if1 .taken, passing-none, ← c .before .before .before .before .before .tried .ensures, ← c .before .before .before .before .before .before .is-within .ensures)
+returns c = simp (c .settle-second .ensures, c .before .second .ensures .0, c .before .second .ensures .1, c .before .before .before .run .ensures .0, c .before .before .before .run .ensures .1, c .before .before .before .before .if1 .taken, passing-none, ← c .before .before .before .before .before .earlier .ensures, ← c .before .before .before .before .before .before .tried .ensures, ← c .before .before .before .before .before .before .before .fails .ensures, ← c .before .before .before .before .before .before .before .before .is-within .ensures)
 
 returns-2 : tie.Need-returns-2
 unfolding secondDue
-returns-2 c = simp (← c .before .tried .ensures, ← c .before .before .is-within .ensures) (sym (passing-some _ _ (c .if1 .left)))
+returns-2 c = simp (← c .before .earlier .ensures, ← c .before .before .tried .ensures, ← c .before .before .before .fails .ensures, ← c .before .before .before .before .is-within .ensures) (sym (passing-some _ _ (c .if1 .left)))
 
 pub second-spec : {M : Type 1} → statement M
 second-spec =
     tie.close
     (tie.spec
     is-within-requires
+    fails-requires
     tried-requires
+    earlier-requires
     run-requires
     second-requires
     settle-second-requires

@@ -1,11 +1,15 @@
 use borrow.Author.Needs.{needs}
 use Rattle.profile_arcs.specs.Profiles.{turnDue}
-use mathlib.Core.Path.{sym, _∙_}
+use Rattle.checked.specs.TestsLaws.{passing-none, passing-some}
+use mathlib.Core.Path.{sym}
 use Rattle.profile_arcs.proofs.ProfileArc.turn.Statement.{statement}
 use Rattle.profile_arcs.proofs.ProfileArc.turn.Tie as tie
 
 is-handed-requires : tie.Need-is-handed-requires
 is-handed-requires c κs = search needs
+
+fails-requires : tie.Need-fails-requires
+fails-requires c κs = search needs
 
 turn-requires : tie.Need-turn-requires
 turn-requires c κs = search needs
@@ -15,11 +19,13 @@ settle-requires c κs = search needs
 
 returns : tie.Need-returns
 unfolding turnDue
-returns c = simp (c .settle .ensures, c .before .turn .ensures .0, c .before .turn .ensures .1, sym (c .before .before .before .is-handed .ensures) ∙ c .before .before .if1 .taken)
+returns c = simp (c .settle .ensures, c .before .turn .ensures .0, c .before .turn .ensures .1, c .before .before .if1 .taken, passing-none, ← c .before .before .before .fails .ensures, ← c .before .before .before .before .is-handed .ensures)
 
 returns-2 : tie.Need-returns-2
 unfolding turnDue
-returns-2 c = simp (sym (c .before .is-handed .ensures) ∙ c .if1 .left)
+returns-2 c = simp (← c .before .fails .ensures, ← c .before .before .is-handed .ensures) (sym (passing-some _ _ (c .if1 .left)))
 
 pub turn-spec : {M : Type 1} → statement M
-turn-spec = tie.close (tie.spec is-handed-requires turn-requires settle-requires returns returns-2)
+turn-spec =
+    tie.close
+    (tie.spec is-handed-requires fails-requires turn-requires settle-requires returns returns-2)

@@ -1,14 +1,24 @@
 use borrow.Author.Needs.{needs}
 use Rattle.revolutions.specs.Closings.{closeDue}
-use mathlib.Core.Path.{sym, _∙_}
+use Rattle.checked.specs.TestsLaws.{passing-none, passing-some}
+use mathlib.Core.Path.{sym}
 use Rattle.revolutions.proofs.closings.closed.Statement.{statement}
 use Rattle.revolutions.proofs.closings.closed.Tie as tie
 
 is-within-requires : tie.Need-is-within-requires
 is-within-requires c κs = search needs
 
+fails-requires : tie.Need-fails-requires
+fails-requires c κs = search needs
+
 are-finite-requires : tie.Need-are-finite-requires
 are-finite-requires c κs = search needs
+
+fails-requires-2 : tie.Need-fails-requires-2
+fails-requires-2 c κs = search needs
+
+earlier-requires : tie.Need-earlier-requires
+earlier-requires c κs = search needs
 
 joined-requires : tie.Need-joined-requires
 joined-requires c κs = search needs
@@ -18,24 +28,22 @@ settle-requires c κs = search needs
 
 returns : tie.Need-returns
 unfolding closeDue
-returns c = simp (c .settle .ensures, c .before .joined .ensures .0, c .before .joined .ensures .1, sym (c .before .before .before .are-finite .ensures) ∙ c .before .before .if2 .taken, sym (c .before .before .before .before .before .is-within .ensures) ∙ c .before .before .before .before .if1 .taken)
+returns c = simp (c .settle .ensures, c .before .joined .ensures .0, c .before .joined .ensures .1, c .before .before .if1 .taken, passing-none, ← c .before .before .before .earlier .ensures, ← c .before .before .before .before .fails2 .ensures, ← c .before .before .before .before .before .are-finite .ensures, ← c .before .before .before .before .before .before .fails .ensures, ← c .before .before .before .before .before .before .before .is-within .ensures)
 
 returns-2 : tie.Need-returns-2
 unfolding closeDue
-returns-2 c = simp (sym (c .before .are-finite .ensures) ∙ c .if2 .left, sym (c .before .before .before .is-within .ensures) ∙ c .before .before .if1 .taken)
-
-returns-3 : tie.Need-returns-3
-unfolding closeDue
-returns-3 c = simp (sym (c .before .is-within .ensures) ∙ c .if1 .left)
+returns-2 c = simp (← c .before .earlier .ensures, ← c .before .before .fails2 .ensures, ← c .before .before .before .are-finite .ensures, ← c .before .before .before .before .fails .ensures, ← c .before .before .before .before .before .is-within .ensures) (sym (passing-some _ _ (c .if1 .left)))
 
 pub closed-spec : {M : Type 1} → statement M
 closed-spec =
     tie.close
     (tie.spec
     is-within-requires
+    fails-requires
     are-finite-requires
+    fails-requires-2
+    earlier-requires
     joined-requires
     settle-requires
     returns
-    returns-2
-    returns-3)
+    returns-2)

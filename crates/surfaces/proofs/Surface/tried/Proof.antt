@@ -12,6 +12,9 @@ is-within3-requires c κs = search needs
 is-within3-requires-2 : tie.Need-is-within3-requires-2
 is-within3-requires-2 c κs = search needs
 
+fails-requires : tie.Need-fails-requires
+fails-requires c κs = search needs
+
 enum-known-self-2 : tie.Need-enum-known-self-2
 enum-known-self-2 c = search needs
 
@@ -24,11 +27,17 @@ is-within3-requires-4 c κs = search needs
 is-within-requires : tie.Need-is-within-requires
 is-within-requires c κs = search needs
 
+fails-requires-2 : tie.Need-fails-requires-2
+fails-requires-2 c κs = search needs
+
 enum-known-self-3 : tie.Need-enum-known-self-3
 enum-known-self-3 c = search needs
 
 is-within-requires-2 : tie.Need-is-within-requires-2
 is-within-requires-2 c κs = search needs
+
+fails-requires-3 : tie.Need-fails-requires-3
+fails-requires-3 c κs = search needs
 
 enum-known-self-4 : tie.Need-enum-known-self-4
 enum-known-self-4 c = search needs
@@ -38,31 +47,19 @@ tried-requires c κs = search needs
 
 returns : tie.Need-returns
 unfolding tests
-returns c = simp (c .before .before .before .before .self .given .1, ← c .before .is-within32 .ensures, ← c .before .before .is-within3 .ensures, c .if1 .taken)
+returns c = simp (c .fails .ensures, c .before .is-within32 .ensures, c .before .before .is-within3 .ensures, c .before .before .before .before .self .given .1)
 
 returns-2 : tie.Need-returns-2
 unfolding tests
-returns-2 c = simp (c .before .before .before .before .self .given .1, ← c .before .is-within32 .ensures, ← c .before .before .is-within3 .ensures, c .if1 .left)
+returns-2 c = simp (c .fails2 .ensures, c .before .is-within .ensures, c .before .before .is-within34 .ensures, c .before .before .before .is-within33 .ensures, c .before .before .before .before .before .self2 .given .1)
 
 returns-3 : tie.Need-returns-3
 unfolding tests
-returns-3 c = simp (c .before .before .before .before .before .self2 .given .1, ← c .before .is-within .ensures, ← c .before .before .is-within34 .ensures, ← c .before .before .before .is-within33 .ensures, c .if2 .taken)
+returns-3 c = simp (c .fails3 .ensures, c .before .is-within2 .ensures, c .before .before .before .self3 .given .1)
 
 returns-4 : tie.Need-returns-4
 unfolding tests
-returns-4 c = simp (c .before .before .before .before .before .self2 .given .1, ← c .before .is-within .ensures, ← c .before .before .is-within34 .ensures, ← c .before .before .before .is-within33 .ensures, c .if2 .left)
-
-returns-5 : tie.Need-returns-5
-unfolding tests
-returns-5 c = simp (c .before .before .before .self3 .given .1, ← c .before .is-within2 .ensures, c .if3 .taken)
-
-returns-6 : tie.Need-returns-6
-unfolding tests
-returns-6 c = simp (c .before .before .before .self3 .given .1, ← c .before .is-within2 .ensures, c .if3 .left)
-
-returns-7 : tie.Need-returns-7
-unfolding tests
-returns-7 c = simp (c .tried .ensures, c .before .before .self4 .given .1)
+returns-4 c = simp (c .tried .ensures, c .before .before .self4 .given .1)
 
 pub tried-spec : {M : Type 1} → statement M
 tried-spec =
@@ -71,18 +68,18 @@ tried-spec =
     enum-known-self
     is-within3-requires
     is-within3-requires-2
+    fails-requires
     enum-known-self-2
     is-within3-requires-3
     is-within3-requires-4
     is-within-requires
+    fails-requires-2
     enum-known-self-3
     is-within-requires-2
+    fails-requires-3
     enum-known-self-4
     tried-requires
     returns
     returns-2
     returns-3
-    returns-4
-    returns-5
-    returns-6
-    returns-7)
+    returns-4)

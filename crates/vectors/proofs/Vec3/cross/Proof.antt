@@ -1,12 +1,16 @@
 use borrow.Author.Needs.{needs}
 use Rattle.vectors.specs.Entries.{crossDue}
 use Rattle.vectors.specs.Laws.{rules as vectors-rules}
-use mathlib.Core.Path.{sym, _∙_}
+use Rattle.checked.specs.TestsLaws.{passing-none, passing-some}
+use mathlib.Core.Path.{sym}
 use Rattle.vectors.proofs.Vec3.cross.Statement.{statement}
 use Rattle.vectors.proofs.Vec3.cross.Tie as tie
 
 are-within-requires : tie.Need-are-within-requires
 are-within-requires c κs = search needs
+
+fails-requires : tie.Need-fails-requires
+fails-requires c κs = search needs
 
 cross-requires : tie.Need-cross-requires
 cross-requires c κs = search needs
@@ -16,12 +20,13 @@ tried-requires c κs = search needs
 
 returns : tie.Need-returns
 unfolding crossDue
-returns c = simp (c .tried .ensures, c .before .cross .ensures, sym (c .before .before .before .are-within .ensures) ∙ c .before .before .if1 .taken, vectors-rules)
+returns c = simp (c .tried .ensures, c .before .cross .ensures, c .before .before .if1 .taken, passing-none, ← c .before .before .before .fails .ensures, ← c .before .before .before .before .are-within .ensures, vectors-rules)
 
 returns-2 : tie.Need-returns-2
 unfolding crossDue
-returns-2 c = simp (sym (c .before .are-within .ensures) ∙ c .if1 .left, vectors-rules)
+returns-2 c = simp (← c .before .fails .ensures, ← c .before .before .are-within .ensures) (sym (passing-some _ _ (c .if1 .left)))
 
 pub cross-spec : {M : Type 1} → statement M
 cross-spec =
-    tie.close (tie.spec are-within-requires cross-requires tried-requires returns returns-2)
+    tie.close
+    (tie.spec are-within-requires fails-requires cross-requires tried-requires returns returns-2)

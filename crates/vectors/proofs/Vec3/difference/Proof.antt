@@ -1,12 +1,16 @@
 use borrow.Author.Needs.{needs}
 use Rattle.vectors.specs.Entries.{differenceDue}
 use Rattle.vectors.specs.Laws.{rules as vectors-rules}
-use mathlib.Core.Path.{sym, _∙_}
+use Rattle.checked.specs.TestsLaws.{passing-none, passing-some}
+use mathlib.Core.Path.{sym}
 use Rattle.vectors.proofs.Vec3.difference.Statement.{statement}
 use Rattle.vectors.proofs.Vec3.difference.Tie as tie
 
 are-within-requires : tie.Need-are-within-requires
 are-within-requires c κs = search needs
+
+fails-requires : tie.Need-fails-requires
+fails-requires c κs = search needs
 
 minus-requires : tie.Need-minus-requires
 minus-requires c κs = search needs
@@ -16,12 +20,13 @@ tried-requires c κs = search needs
 
 returns : tie.Need-returns
 unfolding differenceDue
-returns c = simp (c .tried .ensures, c .before .minus .ensures, sym (c .before .before .before .are-within .ensures) ∙ c .before .before .if1 .taken, vectors-rules)
+returns c = simp (c .tried .ensures, c .before .minus .ensures, c .before .before .if1 .taken, passing-none, ← c .before .before .before .fails .ensures, ← c .before .before .before .before .are-within .ensures, vectors-rules)
 
 returns-2 : tie.Need-returns-2
 unfolding differenceDue
-returns-2 c = simp (sym (c .before .are-within .ensures) ∙ c .if1 .left, vectors-rules)
+returns-2 c = simp (← c .before .fails .ensures, ← c .before .before .are-within .ensures) (sym (passing-some _ _ (c .if1 .left)))
 
 pub difference-spec : {M : Type 1} → statement M
 difference-spec =
-    tie.close (tie.spec are-within-requires minus-requires tried-requires returns returns-2)
+    tie.close
+    (tie.spec are-within-requires fails-requires minus-requires tried-requires returns returns-2)

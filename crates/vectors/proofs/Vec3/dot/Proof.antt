@@ -2,12 +2,16 @@ use borrow.Author.Needs.{needs}
 use Rattle.vectors.specs.Entries.{dotDue}
 use Rattle.checked.specs.Laws.{rules as checked-rules}
 use Rattle.vectors.specs.Laws.{rules as vectors-rules}
-use mathlib.Core.Path.{sym, _∙_}
+use Rattle.checked.specs.TestsLaws.{passing-none, passing-some}
+use mathlib.Core.Path.{sym}
 use Rattle.vectors.proofs.Vec3.dot.Statement.{statement}
 use Rattle.vectors.proofs.Vec3.dot.Tie as tie
 
 are-within-requires : tie.Need-are-within-requires
 are-within-requires c κs = search needs
+
+fails-requires : tie.Need-fails-requires
+fails-requires c κs = search needs
 
 dot-requires : tie.Need-dot-requires
 dot-requires c κs = search needs
@@ -20,13 +24,20 @@ settle-requires c κs = search needs
 
 returns : tie.Need-returns
 unfolding dotDue
-returns c = simp (c .settle .ensures, c .before .note .ensures, c .before .before .dot .ensures, sym (c .before .before .before .before .are-within .ensures) ∙ c .before .before .before .if1 .taken, checked-rules, vectors-rules)
+returns c = simp (c .settle .ensures, c .before .note .ensures, c .before .before .dot .ensures, c .before .before .before .if1 .taken, passing-none, ← c .before .before .before .before .fails .ensures, ← c .before .before .before .before .before .are-within .ensures, checked-rules, vectors-rules)
 
 returns-2 : tie.Need-returns-2
 unfolding dotDue
-returns-2 c = simp (sym (c .before .are-within .ensures) ∙ c .if1 .left, vectors-rules)
+returns-2 c = simp (← c .before .fails .ensures, ← c .before .before .are-within .ensures) (sym (passing-some _ _ (c .if1 .left)))
 
 pub dot-spec : {M : Type 1} → statement M
 dot-spec =
     tie.close
-    (tie.spec are-within-requires dot-requires note-requires settle-requires returns returns-2)
+    (tie.spec
+    are-within-requires
+    fails-requires
+    dot-requires
+    note-requires
+    settle-requires
+    returns
+    returns-2)

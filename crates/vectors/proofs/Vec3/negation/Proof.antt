@@ -1,12 +1,16 @@
 use borrow.Author.Needs.{needs}
 use Rattle.vectors.specs.Entries.{negationDue}
 use Rattle.vectors.specs.Laws.{rules as vectors-rules}
-use mathlib.Core.Path.{sym, _∙_}
+use Rattle.checked.specs.TestsLaws.{passing-none, passing-some}
+use mathlib.Core.Path.{sym}
 use Rattle.vectors.proofs.Vec3.negation.Statement.{statement}
 use Rattle.vectors.proofs.Vec3.negation.Tie as tie
 
 is-within3-requires : tie.Need-is-within3-requires
 is-within3-requires c κs = search needs
+
+fails-requires : tie.Need-fails-requires
+fails-requires c κs = search needs
 
 neg-requires : tie.Need-neg-requires
 neg-requires c κs = search needs
@@ -16,12 +20,13 @@ tried-requires c κs = search needs
 
 returns : tie.Need-returns
 unfolding negationDue
-returns c = simp (c .tried .ensures, c .before .neg .ensures, sym (c .before .before .before .is-within3 .ensures) ∙ c .before .before .if1 .taken, vectors-rules)
+returns c = simp (c .tried .ensures, c .before .neg .ensures, c .before .before .if1 .taken, passing-none, ← c .before .before .before .fails .ensures, ← c .before .before .before .before .is-within3 .ensures, vectors-rules)
 
 returns-2 : tie.Need-returns-2
 unfolding negationDue
-returns-2 c = simp (sym (c .before .is-within3 .ensures) ∙ c .if1 .left, vectors-rules)
+returns-2 c = simp (← c .before .fails .ensures, ← c .before .before .is-within3 .ensures) (sym (passing-some _ _ (c .if1 .left)))
 
 pub negation-spec : {M : Type 1} → statement M
 negation-spec =
-    tie.close (tie.spec is-within3-requires neg-requires tried-requires returns returns-2)
+    tie.close
+    (tie.spec is-within3-requires fails-requires neg-requires tried-requires returns returns-2)

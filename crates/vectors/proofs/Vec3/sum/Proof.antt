@@ -1,12 +1,16 @@
 use borrow.Author.Needs.{needs}
 use Rattle.vectors.specs.Entries.{sumDue}
 use Rattle.vectors.specs.Laws.{rules as vectors-rules}
-use mathlib.Core.Path.{sym, _∙_}
+use Rattle.checked.specs.TestsLaws.{passing-none, passing-some}
+use mathlib.Core.Path.{sym}
 use Rattle.vectors.proofs.Vec3.sum.Statement.{statement}
 use Rattle.vectors.proofs.Vec3.sum.Tie as tie
 
 are-within-requires : tie.Need-are-within-requires
 are-within-requires c κs = search needs
+
+fails-requires : tie.Need-fails-requires
+fails-requires c κs = search needs
 
 plus-requires : tie.Need-plus-requires
 plus-requires c κs = search needs
@@ -16,11 +20,13 @@ tried-requires c κs = search needs
 
 returns : tie.Need-returns
 unfolding sumDue
-returns c = simp (c .tried .ensures, c .before .plus .ensures, sym (c .before .before .before .are-within .ensures) ∙ c .before .before .if1 .taken, vectors-rules)
+returns c = simp (c .tried .ensures, c .before .plus .ensures, c .before .before .if1 .taken, passing-none, ← c .before .before .before .fails .ensures, ← c .before .before .before .before .are-within .ensures, vectors-rules)
 
 returns-2 : tie.Need-returns-2
 unfolding sumDue
-returns-2 c = simp (sym (c .before .are-within .ensures) ∙ c .if1 .left, vectors-rules)
+returns-2 c = simp (← c .before .fails .ensures, ← c .before .before .are-within .ensures) (sym (passing-some _ _ (c .if1 .left)))
 
 pub sum-spec : {M : Type 1} → statement M
-sum-spec = tie.close (tie.spec are-within-requires plus-requires tried-requires returns returns-2)
+sum-spec =
+    tie.close
+    (tie.spec are-within-requires fails-requires plus-requires tried-requires returns returns-2)

@@ -1,12 +1,16 @@
 use borrow.Author.Needs.{needs}
 use Rattle.vectors.specs.Entries.{timesDue}
 use Rattle.vectors.specs.Laws.{rules as vectors-rules}
-use mathlib.Core.Path.{sym, _∙_}
+use Rattle.checked.specs.TestsLaws.{passing-none, passing-some}
+use mathlib.Core.Path.{sym}
 use Rattle.vectors.proofs.Vec3.times.Statement.{statement}
 use Rattle.vectors.proofs.Vec3.times.Tie as tie
 
 is-within-times-requires : tie.Need-is-within-times-requires
 is-within-times-requires c κs = search needs
+
+fails-requires : tie.Need-fails-requires
+fails-requires c κs = search needs
 
 times-requires : tie.Need-times-requires
 times-requires c κs = search needs
@@ -16,12 +20,19 @@ tried-requires c κs = search needs
 
 returns : tie.Need-returns
 unfolding timesDue
-returns c = simp (c .tried .ensures, c .before .times .ensures, sym (c .before .before .before .is-within-times .ensures) ∙ c .before .before .if1 .taken, vectors-rules)
+returns c = simp (c .tried .ensures, c .before .times .ensures, c .before .before .if1 .taken, passing-none, ← c .before .before .before .fails .ensures, ← c .before .before .before .before .is-within-times .ensures, vectors-rules)
 
 returns-2 : tie.Need-returns-2
 unfolding timesDue
-returns-2 c = simp (sym (c .before .is-within-times .ensures) ∙ c .if1 .left, vectors-rules)
+returns-2 c = simp (← c .before .fails .ensures, ← c .before .before .is-within-times .ensures) (sym (passing-some _ _ (c .if1 .left)))
 
 pub times-spec : {M : Type 1} → statement M
 times-spec =
-    tie.close (tie.spec is-within-times-requires times-requires tried-requires returns returns-2)
+    tie.close
+    (tie.spec
+    is-within-times-requires
+    fails-requires
+    times-requires
+    tried-requires
+    returns
+    returns-2)

@@ -1,6 +1,6 @@
 use mathlib.Core.Path.{sym}
 use borrow.Author.Needs.{needs}
-use Rattle.checked.specs.HandedLaws.{passing-none, passing-some}
+use Rattle.checked.specs.TestsLaws.{passing-none, passing-some}
 use Rattle.walls.specs.Entries.{wallDue}
 use Rattle.walls.proofs.cut_walls.with_cut_wall.Statement.{statement}
 use Rattle.walls.proofs.cut_walls.with_cut_wall.Tie as tie
