@@ -13,18 +13,18 @@ use Rattle.checked.specs.Checked.{first, isFinite, nine, eight, within, due, re
 use Rattle.checked.specs.Tests.{fails, passing}
 use Rattle.checked.specs.Laws.{within-finite}
 use Rattle.order.specs.Order.{le-trans-of}
-use Rattle.float_bits.specs.Words.{fabs}
+use Rattle.float_bits.specs.FloatBits.{fabs}
 use Rattle.vectors.specs.declared.Vec3.{Vec3}
 use Rattle.checked.specs.Numbers.{zero}
 use Rattle.vectors.specs.Vectors.{isFinite3, nines, within3, plusC, minusC, timesC, crossC, dotC}
 use Rattle.vectors.specs.Laws.{times-right}
 use Rattle.directions.specs.Directions.{lengthC, acrossC}
-use Rattle.libm.specs.Circle.{sines, sinesOrZeros, sincosC}
+use Rattle.libm.specs.Sincos.{sines, sinesOrZeros, sincosC}
 use Rattle.arcs.specs.declared.Arc.{Arc}
 use Rattle.arcs.specs.Entries.{atDue}
-use Rattle.arcs.specs.Sweeps.{circleWithin}
+use Rattle.arcs.specs.Sweep.{circleWithin}
 use Rattle.rows.specs.CirclesLaws.{rim-refusal}
-use Rattle.arcs.specs.Spokes.{angleWithin, spokeC, turnedC, atC}
+use Rattle.arcs.specs.Points.{angleWithin, radiusVectorC, turnedC, atC}
 use Rattle.arcs.specs.PointsLaws.{spoke-refusal, rimOf, turned-refusal, turned-value}
 use Rattle.float_bounds.specs.Intervals.{le-fabs, finite-number}
 use Rattle.float_bounds.specs.Powers.{pow-div, within-pow}
@@ -96,36 +96,36 @@ module _ (center axis : Vec3) (radius : Float) (from : Vec3) (C : T (within3 cen
   finite-length : T (isFinite (offLength center axis from))
   finite-length = length-finite 64 (off center axis from) (omega arith) off-size
 
-  spoke-size : T (lt zero (offLength center axis from)) → Upto3 621 (spokeC center axis radius from .value)
-  unfolding spokeC
+  spoke-size : T (lt zero (offLength center axis from)) → Upto3 621 (radiusVectorC center axis radius from .value)
+  unfolding radiusVectorC
   spoke-size l =
       let len = offLength center axis from in
       times3 64 557 (off center axis from) (div binary64 radius len) (omega arith) off-size
       (pow-div 20 536 radius len (omega arith) (within-pow radius R) finite-length (le-trans-of least-root len (fabs len) (length-least 64 (off center axis from) (omega arith) off-size l) (le-fabs len (finite-number len finite-length))))
 
   -- the spoke, where the start lies off the axis
-  pub spoke-found : T (lt zero (offLength center axis from)) → spokeC center axis radius from .refusal ≡ 0
-  spoke-found l = spoke-refusal center axis radius from ∙ none _ _ (nine-none (offLength center axis from) finite-length) (nines-none 621 (spokeC center axis radius from .value) (spoke-size l))
+  pub spoke-found : T (lt zero (offLength center axis from)) → radiusVectorC center axis radius from .refusal ≡ 0
+  spoke-found l = spoke-refusal center axis radius from ∙ none _ _ (nine-none (offLength center axis from) finite-length) (nines-none 621 (radiusVectorC center axis radius from .value) (spoke-size l))
 
-  spoke-lost : lt zero (offLength center axis from) ≡ false → T (isFinite3 (spokeC center axis radius from .value)) → ⊥
-  unfolding spokeC lengthC ofBits
+  spoke-lost : lt zero (offLength center axis from) ≡ false → T (isFinite3 (radiusVectorC center axis radius from .value)) → ⊥
+  unfolding radiusVectorC lengthC ofBits
   spoke-lost h f =
       let w = off center axis from in
       let z = sqrt-zero (dotC w w .value) (dot-self 64 w (omega arith) off-size .0) (dot-self 64 w (omega arith) off-size .1) h in
       over-zero radius (z .0) (subst (λ (v : Float). T (isFinite (div binary64 radius v))) (z .1) (times-right w (div binary64 radius (offLength center axis from)) f))
 
-  lost : lt zero (offLength center axis from) ≡ false → nines (spokeC center axis radius from .value) ≡ NOT-FINITE
+  lost : lt zero (offLength center axis from) ≡ false → nines (radiusVectorC center axis radius from .value) ≡ NOT-FINITE
   unfolding nines
-  lost h = ap (λ (b : Bool). cond b 0 NOT-FINITE) (is-false (isFinite3 (spokeC center axis radius from .value)) (not-T (isFinite3 (spokeC center axis radius from .value)) (spoke-lost h)))
+  lost h = ap (λ (b : Bool). cond b 0 NOT-FINITE) (is-false (isFinite3 (radiusVectorC center axis radius from .value)) (not-T (isFinite3 (radiusVectorC center axis radius from .value)) (spoke-lost h)))
 
   -- and where it lies on the axis
-  pub spoke-missed : lt zero (offLength center axis from) ≡ false → spokeC center axis radius from .refusal ≡ NOT-FINITE
+  pub spoke-missed : lt zero (offLength center axis from) ≡ false → radiusVectorC center axis radius from .refusal ≡ NOT-FINITE
   unfolding first
   spoke-missed h = spoke-refusal center axis radius from ∙ λ i. first (nine-none (offLength center axis from) finite-length i) (lost h i)
 
 module _ (center axis : Vec3) (radius : Float) (from : Vec3) (t : Float) (C : T (within3 center)) (A : T (within3 axis)) (R : T (within radius)) (P : T (within3 from)) (W : T (within t)) where
   abbrev spoke : Vec3
-  spoke = spokeC center axis radius from .value
+  spoke = radiusVectorC center axis radius from .value
 
   turned-size : (d : Vec3) → Upto3 621 d → Upto3 1009 (turnedC center axis d t .value)
   unfolding turnedC

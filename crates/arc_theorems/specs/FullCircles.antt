@@ -19,11 +19,11 @@ use Rattle.libm_ranges.specs.Quadrants.{Angle}
 use Rattle.vectors.specs.declared.Vec2.{Vec2}
 use Rattle.vectors.specs.declared.Vec3.{Vec3}
 use Rattle.vectors.specs.Vectors.{within2, minusC}
-use Rattle.libm.specs.Arctangent.{atan2}
+use Rattle.libm.specs.Atan2.{atan2}
 use Rattle.profile_arcs.specs.declared.ProfileArc.{ProfileArc}
 use Rattle.profile_arcs.specs.Profiles.{apartC, betweenC, turnC}
 use Rattle.arcs.specs.declared.Arc.{Arc}
-use Rattle.arcs.specs.Sweeps.{endsWithin, sweepFromC, sweepC}
+use Rattle.arcs.specs.Sweep.{endsWithin, sweepFromC, sweepC}
 use Rattle.arcs.specs.SweepLaws.{rise, run}
 use Rattle.arc_theorems.specs.Sizes.{within-upto3}
 use Rattle.arc_theorems.specs.Turns.{handed-in, away, turn-angle, turn-fits, sweepFrom-angle, sweepFrom-fits}

@@ -25,7 +25,7 @@ use Rattle.checked.specs.Numbers.{zero, one, tau, float}
 use Rattle.order.specs.Order.{le-trans-of, lt-le}
 use Rattle.order.specs.Least.{greatest}
 use Rattle.order.specs.Extremes.{greatest-picks}
-use Rattle.float_bits.specs.Words.{fabs}
+use Rattle.float_bits.specs.FloatBits.{fabs}
 use Rattle.rounding.specs.Whole.{ceil, floored, ceiled}
 use Rattle.vectors.specs.declared.Vec3.{Vec3}
 use Rattle.chord_counts.specs.Chords.{fewest, most, perTurnC}
@@ -33,11 +33,11 @@ use Rattle.chord_counts.specs.Counts.{MOST, limitedC, countC}
 use Rattle.chord_counts.specs.Laws.{at-most}
 use Rattle.rows.specs.Rows.{upTo, fits, allRefusal, itemsDue}
 use Rattle.rows.specs.CirclesLaws.{rimAt-refusal}
-use Rattle.arcs.specs.Sweeps.{endsWithin, sweepC}
-use Rattle.arcs.specs.Spokes.{spokeC}
+use Rattle.arcs.specs.Sweep.{endsWithin, sweepC}
+use Rattle.arcs.specs.Points.{radiusVectorC}
 use Rattle.arcs.specs.PointsLaws.{rimOf, turned-refusal}
 use Rattle.arcs.specs.declared.chords.Cut.{Cut}
-use Rattle.arcs.specs.Cuts.{chordWithin, cutC, innersDue}
+use Rattle.arcs.specs.Chords.{chordWithin, cutC, innersDue}
 use Rattle.arcs.specs.ChordsLaws.{cut-refusal, rimmed, inners-are}
 use Rattle.arcs.specs.declared.Arc.{Arc}
 use Rattle.arcs.specs.Entries.{innerPointsDue}
@@ -205,8 +205,8 @@ module _ (center axis : Vec3) (radius : Float) (from to : Vec3) (chord : Float) 
   unfolding cutC
   rim-accepted l k K L =
       let t = div binary64 (mul binary64 turn (float k)) (float (cut .chords)) in
-      rimAt-refusal (rimOf center axis (spokeC center axis radius from .value)) (cut .turn) (cut .chords) k
-      ∙ sym (turned-refusal center axis (spokeC center axis radius from .value) t)
+      rimAt-refusal (rimOf center axis (radiusVectorC center axis radius from .value)) (cut .turn) (cut .chords) k
+      ∙ sym (turned-refusal center axis (radiusVectorC center axis radius from .value) t)
       ∙ turned-accepted center axis radius from t (H .center) (H .axis) (H .radius) (H .start) (angle-within turn (cut .chords) k turned (omega arith) chords-most (omega arith)) l
 
   all-accepted : T (lt zero (offLength center axis from)) → (m : ℕ) → m ≤ points → upTo rim m .refusal ≡ 0
@@ -214,12 +214,12 @@ module _ (center axis : Vec3) (radius : Float) (from to : Vec3) (chord : Float) 
   all-accepted l N.zero h = refl
   all-accepted l (suc m) h = none _ _ (all-accepted l m (omega arith)) (first-zero (rim (suc m) .refusal) ∙ rim-accepted l (suc m) (omega arith) h)
 
-  refusal-is : (m : ℕ) → m ≤ points → allRefusal (spokeC center axis radius from .refusal) rim m ≡ cond (isNone m || lt zero (offLength center axis from)) 0 NOT-FINITE
+  refusal-is : (m : ℕ) → m ≤ points → allRefusal (radiusVectorC center axis radius from .refusal) rim m ≡ cond (isNone m || lt zero (offLength center axis from)) 0 NOT-FINITE
   unfolding allRefusal
   refusal-is N.zero h = refl
   refusal-is (suc m) h = by (lt zero (offLength center axis from)) refl
     where
-      by : (b : Bool) → lt zero (offLength center axis from) ≡ b → first (spokeC center axis radius from .refusal) (upTo rim (suc m) .refusal) ≡ cond b 0 NOT-FINITE
+      by : (b : Bool) → lt zero (offLength center axis from) ≡ b → first (radiusVectorC center axis radius from .refusal) (upTo rim (suc m) .refusal) ≡ cond b 0 NOT-FINITE
       by true e =
           let l : T (lt zero (offLength center axis from)) = subst T (sym e) tt in
           none _ _ (spoke-found center axis radius from (H .center) (H .axis) (H .radius) (H .start) l) (all-accepted l (suc m) h)

@@ -17,7 +17,7 @@ use Rattle.checked.specs.Tests.{fails as failed, _or_, passing, chordTest}
 use Rattle.checked.specs.Laws.{within-finite, first-zero, settled-none, rules as checked-rules}
 use Rattle.checked.specs.Numbers.{zero, one, pi}
 use Rattle.order.specs.Order.{Number, le-numbers, le-trans-of, not-lt-le, lt-le, fails}
-use Rattle.float_bits.specs.Words.{fabs}
+use Rattle.float_bits.specs.FloatBits.{fabs}
 use Rattle.float_bits.specs.Laws.{fabs-nan}
 use Rattle.rounding.specs.Whole.{ceil, floored, ceiled}
 use Rattle.libm.specs.Roots.{acos}

@@ -12,13 +12,13 @@ use Rattle.checked.specs.Refusals.{OUT-OF-RANGE, BAD-BOX-OR-SUMS}
 use Rattle.checked.specs.Checked.{first, given, isFinite, nine, due, settled}
 use Rattle.checked.specs.Tests.{fails, _or_, passing}
 use Rattle.checked.specs.Laws.{zero-first, settled-none}
-use Rattle.float_bits.specs.Words.{fabs}
+use Rattle.float_bits.specs.FloatBits.{fabs}
 use Rattle.vectors.specs.declared.Vec3.{Vec3}
 use Rattle.checked.specs.Numbers.{zero, one}
 use Rattle.vectors.specs.Vectors.{along-x, along-y, along-z, within3, plusC, minusC, timesC, dotC}
 use Rattle.directions.specs.Directions.{lengthC, acrossC}
 use Rattle.arcs.specs.declared.Arc.{Arc}
-use Rattle.arcs.specs.Sweeps.{endsWithin, sweepFromC}
+use Rattle.arcs.specs.Sweep.{endsWithin, sweepFromC}
 use Rattle.boxes.specs.declared.Bounds.{Bounds}
 use Rattle.boxes.specs.Boxes.{free, widenedBy, boxCall}
 use Rattle.arcs.specs.Entries.{points, extendDue}

@@ -12,10 +12,10 @@ use Rattle.checked.specs.Refusals.{OUT-OF-RANGE}
 use Rattle.checked.specs.Checked.{isFinite, within, due, settled, answered}
 use Rattle.checked.specs.Tests.{fails, passing}
 use Rattle.checked.specs.Laws.{settled-none}
-use Rattle.float_bits.specs.Words.{sign, choose}
+use Rattle.float_bits.specs.FloatBits.{sign, choose}
 use Rattle.checked.specs.Numbers.{pi, tau}
 use Rattle.libm.specs.Atan.{atan}
-use Rattle.libm.specs.Arctangent.{atan2, angle, isOne}
+use Rattle.libm.specs.Atan2.{atan2, angle, isOne}
 use Rattle.vectors.specs.declared.Vec2.{Vec2}
 use Rattle.vectors.specs.declared.Vec3.{Vec3}
 use Rattle.vectors.specs.Vectors.{space, within2, within3, minusC, crossC, dotC}
@@ -24,7 +24,7 @@ use Rattle.profile_arcs.specs.declared.ProfileArc.{ProfileArc}
 use Rattle.profile_arcs.specs.Profiles.{apartC, turnC, turnDue}
 use Rattle.arcs.specs.declared.Arc.{Arc}
 use Rattle.arcs.specs.Entries.{sweepDue}
-use Rattle.arcs.specs.Sweeps.{circleWithin, endsWithin, sweepFromC, sweepC}
+use Rattle.arcs.specs.Sweep.{circleWithin, endsWithin, sweepFromC, sweepC}
 use Rattle.arcs.specs.SweepLaws.{rise, run}
 use Rattle.float_bounds.specs.Parts.{nought, zero-round}
 use Rattle.float_bounds.specs.Intervals.{Upto, plain}

@@ -14,7 +14,7 @@ use Rattle.checked.specs.Tests.{fails, passing}
 use Rattle.checked.specs.Laws.{settled-none}
 use Rattle.order.specs.Order.{Number, le-numbers, le-trans-of, lt-le}
 use Rattle.checked.specs.Numbers.{zero, pi, tau}
-use Rattle.libm.specs.Arctangent.{atan2}
+use Rattle.libm.specs.Atan2.{atan2}
 use Rattle.vectors.specs.declared.Vec2.{Vec2}
 use Rattle.vectors.specs.declared.Vec3.{Vec3}
 use Rattle.vectors.specs.Vectors.{within2, within3, minusC, crossC, dotC}
@@ -23,7 +23,7 @@ use Rattle.profile_arcs.specs.declared.ProfileArc.{ProfileArc}
 use Rattle.profile_arcs.specs.Profiles.{apartC, turnC, turnDue}
 use Rattle.profile_arcs.specs.Laws.{turn-refusal}
 use Rattle.arcs.specs.declared.Arc.{Arc}
-use Rattle.arcs.specs.Sweeps.{circleWithin, endsWithin, sweepFromC, sweepC}
+use Rattle.arcs.specs.Sweep.{circleWithin, endsWithin, sweepFromC, sweepC}
 use Rattle.arcs.specs.Entries.{sweepDue}
 use Rattle.arcs.specs.SweepLaws.{rise, run, sweepFrom-noted, sweep-refusal}
 use Rattle.float_bounds.specs.Comparing.{lt-le-trans, le-lt-trans, not-le-lt}

@@ -17,12 +17,12 @@ use Rattle.chord_counts.specs.Chords.{perTurnC}
 use Rattle.chord_counts.specs.Counts.{MOST, countC}
 use Rattle.rows.specs.Rows.{upTo, fits, allRefusal, itemsDue, allDue}
 use Rattle.rows.specs.Laws.{upTo-same, upTo-before}
-use Rattle.rows.specs.Rims.{rimC, rimAtC}
-use Rattle.arcs.specs.Sweeps.{sweepC}
-use Rattle.arcs.specs.Spokes.{spokeC, turnedC, atC}
+use Rattle.rows.specs.Circles.{circleC, circleAtC}
+use Rattle.arcs.specs.Sweep.{sweepC}
+use Rattle.arcs.specs.Points.{radiusVectorC, turnedC, atC}
 use Rattle.arcs.specs.PointsLaws.{spoke-refusal, rimOf, turned-refusal, turned-value}
 use Rattle.arcs.specs.declared.chords.Cut.{Cut}
-use Rattle.arcs.specs.Cuts.{cutC, innerC, innersDue}
+use Rattle.arcs.specs.Chords.{cutC, innerC, innersDue}
 
 -- the sweep's refusal, that of the quotient, the chords', the count's
 pub cut-refusal : (center axis : Vec3) (radius : Float) (from to : Vec3) (chord : Float) → cutC center axis radius from to chord .refusal ≡ first (sweepC center axis from to .refusal) (first (nine (div binary64 (sweepC center axis from to .value) tau)) (first (perTurnC radius chord .refusal) (countC (mul binary64 (div binary64 (sweepC center axis from to .value) tau) (perTurnC radius chord .value)) one MOST .refusal)))
@@ -39,23 +39,23 @@ later false b false r = refl
 
 module _ (center axis : Vec3) (radius : Float) (from : Vec3) (cut : Cut) where
   abbrev pub rimmed : ℕ → Checked Vec3
-  rimmed = rimAtC (rimOf center axis (spokeC center axis radius from .value)) (cut .turn) (cut .chords)
+  rimmed = circleAtC (rimOf center axis (radiusVectorC center axis radius from .value)) (cut .turn) (cut .chords)
 
   same-value : (k : ℕ) → innerC center axis radius from cut k .value ≡ rimmed k .value
-  unfolding innerC atC rimAtC
-  same-value k = turned-value center axis (spokeC center axis radius from .value) _
+  unfolding innerC atC circleAtC
+  same-value k = turned-value center axis (radiusVectorC center axis radius from .value) _
 
   abbrev spoken : Bool
-  spoken = isFinite (lengthC (acrossC axis (minusC from center .value) .value) .value) && isFinite3 (spokeC center axis radius from .value)
+  spoken = isFinite (lengthC (acrossC axis (minusC from center .value) .value) .value) && isFinite3 (radiusVectorC center axis radius from .value)
 
-  spoke-ok : spokeC center axis radius from .refusal ≡ ok spoken
+  spoke-ok : radiusVectorC center axis radius from .refusal ≡ ok spoken
   spoke-ok = simp (spoke-refusal, nine-ok, nines-ok, ok-and)
 
   own-refusal : (k : ℕ) → innerC center axis radius from cut k .refusal ≡ first (ok spoken) (rimmed k .refusal)
-  unfolding innerC atC rimAtC
+  unfolding innerC atC circleAtC
   own-refusal k = simp (spoke-ok, turned-refusal, nine-ok, checked-opened) (later _ _ _ _)
 
-  pub inners-are : (room : ℕ) → innersDue center axis radius from cut room ≡ allDue (spokeC center axis radius from .refusal) rimmed (cut .chords - 1) room
+  pub inners-are : (room : ℕ) → innersDue center axis radius from cut room ≡ allDue (radiusVectorC center axis radius from .refusal) rimmed (cut .chords - 1) room
   unfolding innersDue itemsDue
   inners-are room =
       let m = cut .chords - 1 in

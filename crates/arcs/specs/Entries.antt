@@ -10,10 +10,10 @@ use Rattle.checked.specs.Tests.{fails, _or_, passing, chordTest}
 use Rattle.vectors.specs.declared.Vec3.{Vec3}
 use Rattle.boxes.specs.declared.Bounds.{Bounds}
 use Rattle.boxes.specs.Boxes.{boxCall}
-use Rattle.arcs.specs.Sweeps.{circleWithin, endsWithin, sweepC}
-use Rattle.arcs.specs.Spokes.{angleWithin, atC}
+use Rattle.arcs.specs.Sweep.{circleWithin, endsWithin, sweepC}
+use Rattle.arcs.specs.Points.{angleWithin, atC}
 use Rattle.arcs.specs.Extremes.{pointsC}
-use Rattle.arcs.specs.Cuts.{chordWithin, cutC, innersDue}
+use Rattle.arcs.specs.Chords.{chordWithin, cutC, innersDue}
 use Rattle.arcs.specs.declared.Arc.{Arc}
 use Rattle.arcs.specs.declared.ArcAnswer.{ArcAnswer}
 use Rattle.arcs.specs.declared.ArcAnswer.the-variants as answer

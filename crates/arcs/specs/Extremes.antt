@@ -9,7 +9,7 @@ use Rattle.vectors.specs.declared.Vec3.{Vec3}
 use Rattle.vectors.specs.Vectors.{along-x, along-y, along-z, vec, _⊞_, _⊠_}
 use Rattle.directions.specs.Directions.{lengthC, acrossC}
 use Rattle.boxes.specs.Boxes.{_⧺_}
-use Rattle.arcs.specs.Sweeps.{sweepC}
+use Rattle.arcs.specs.Sweep.{sweepC}
 
 -- the candidate on the side s, 1 or -1, along a vector w of length len
 unfoldable pub sideC : Vec3 → Float → Vec3 → Float → Float → Checked Vec3

@@ -13,7 +13,7 @@ use Rattle.vectors.specs.Vectors.{along-x, along-y, along-z, isFinite3, nines, 
 use Rattle.vectors.specs.Laws.{nines-ok, rules as vectors-rules}
 use Rattle.directions.specs.Directions.{lengthC, acrossC}
 use Rattle.directions.specs.Laws.{rules as directions-rules}
-use Rattle.arcs.specs.Sweeps.{sweepFromC}
+use Rattle.arcs.specs.Sweep.{sweepFromC}
 use Rattle.arcs.specs.SweepLaws.{swept, sweepFrom-ok, swept-finite, sweep-is, sweep-to}
 use Rattle.arcs.specs.Extremes.{sideC, takenC, bothC, extremesC, pointsC}
 

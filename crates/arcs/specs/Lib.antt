@@ -1,11 +1,11 @@
 pub mod Arcs
+pub mod Chords
 pub mod ChordsLaws
-pub mod Cuts
 pub mod Entries
 pub mod Extremes
 pub mod ExtremesLaws
+pub mod Points
 pub mod PointsLaws
 pub mod Sound
-pub mod Spokes
+pub mod Sweep
 pub mod SweepLaws
-pub mod Sweeps

@@ -15,7 +15,7 @@ use Rattle.vectors.specs.Laws.{minus-left}
 use Rattle.directions.specs.Directions.{lengthC, acrossC}
 use Rattle.boxes.specs.Boxes.{Sound, AllFinite, _⧺_}
 use Rattle.boxes.specs.Laws.{nines-finite, finite-none, finite-cons, finite-append, sound-none, sound-then, sound-append, sound-either}
-use Rattle.arcs.specs.Sweeps.{sweepFromC}
+use Rattle.arcs.specs.Sweep.{sweepFromC}
 use Rattle.arcs.specs.SweepLaws.{swept, sweepFrom-ok, swept-finite}
 use Rattle.arcs.specs.Extremes.{sideC, takenC, bothC, extremesC, pointsC}
 use Rattle.arcs.specs.ExtremesLaws.{side-nine, points-refusal, points-value}

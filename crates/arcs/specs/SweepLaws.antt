@@ -12,7 +12,7 @@ use Rattle.vectors.specs.Vectors.{isFinite3, minusC, crossC, dotC}
 use Rattle.vectors.specs.Laws.{minus-left, dot-left, dot-right, rules as vectors-rules}
 use Rattle.profile_arcs.specs.Angles.{angleC}
 use Rattle.profile_arcs.specs.AnglesLaws.{ahead-nine, ahead-noted}
-use Rattle.arcs.specs.Sweeps.{sweepFromC, sweepC}
+use Rattle.arcs.specs.Sweep.{sweepFromC, sweepC}
 
 ruleset all = (checked-rules, vectors-rules)
 

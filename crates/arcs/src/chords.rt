@@ -3,8 +3,8 @@
 ghost use mathlib.Core.Path.{_≡_};
 ghost use lib.ListN.{length};
 ghost use Rattle.rows.specs.Rows.{Drawn};
-ghost use Rattle.arcs.specs.Cuts.{chordWithin, cutC, innersDue};
-use crate::points::spoke;
+ghost use Rattle.arcs.specs.Chords.{chordWithin, cutC, innersDue};
+use crate::points::radius_vector;
 use crate::sweep::ends_within;
 use crate::sweep::sweep;
 use checked::TAU;
@@ -15,7 +15,7 @@ use chord_counts::counts::MOST;
 use chord_counts::counts::count;
 use chord_counts::formula::per_turn;
 use rows::Written;
-use rows::circles::Rim;
+use rows::circles::Circle;
 use rows::circles::write;
 use rows::less_one;
 use vectors::Vec3;
@@ -68,14 +68,14 @@ pub fn write_points(
 ) -> Written
     ensures { λ r. ⌜ Drawn (innersDue center axis radius from cut (length (now (row .entry)))) (now (row .entry)) (now (row .exit)) (r .refusal) (r .points) ⌝ }
 {
-    let d = spoke(center, axis, radius, from);
+    let d = radius_vector(center, axis, radius, from);
     let start = d.value;
     let quarter = cross(axis, start);
     let m = less_one(cut.chords);
     let r = write(
         &mut *row,
         d.refusal,
-        Rim {
+        Circle {
             center: center,
             start: start,
             quarter: quarter,

@@ -6,7 +6,7 @@ ghost use mathlib.Core.Bool.{Bool, cond};
 ghost use mathlib.Core.List.{[], _∷_};
 ghost use Rattle.checked.specs.Checked.{first};
 ghost use Rattle.boxes.specs.Boxes.{widenedBy};
-ghost use Rattle.arcs.specs.Sweeps.{sweepFromC};
+ghost use Rattle.arcs.specs.Sweep.{sweepFromC};
 ghost use Rattle.arcs.specs.Extremes.{sideC, takenC, bothC, extremesC, pointsC};
 use crate::sweep::sweep_from;
 use boxes::Bounds;

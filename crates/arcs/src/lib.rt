@@ -15,8 +15,8 @@ use crate::points::angle_within;
 use crate::sweep::circle_within;
 use crate::sweep::ends_within;
 use boxes::Bounds;
+use boxes::BoxOutcome;
 use boxes::CheckedBounds;
-use boxes::Outcome;
 use boxes::Widened;
 use checked::BAD_BOX_OR_SUMS;
 use checked::Number;
@@ -141,7 +141,7 @@ impl Arc {
     }
 
     // What is left of a box after the call, and the number that it answers.
-    fn outcome(self, from: Vec3, to: Vec3, bounds: Bounds) -> Outcome
+    fn outcome(self, from: Vec3, to: Vec3, bounds: Bounds) -> BoxOutcome
         ensures { λ r. ⌜ r ≡ outcome bounds (extendDue self from to bounds) ⌝ }
     {
         boxes::after(bounds, self.extended(from, to, bounds))

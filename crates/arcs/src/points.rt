@@ -1,14 +1,14 @@
 // Points of a circle in space by their angle, on numbers of any size: counterclockwise about
 // `axis`, around `center`.
 ghost use mathlib.Core.Path.{_≡_};
-ghost use Rattle.arcs.specs.Spokes.{angleWithin, spokeC, atC};
+ghost use Rattle.arcs.specs.Points.{angleWithin, radiusVectorC, atC};
 use crate::sweep::circle_within;
 use checked::earlier;
 use checked::is_within;
 use checked::note;
 use directions::formula::across;
 use directions::formula::length;
-use rows::circles::Rim;
+use rows::circles::Circle;
 use rows::circles::point;
 use vectors::CheckedVec3;
 use vectors::Vec3;
@@ -26,9 +26,9 @@ pub fn angle_within(center: Vec3, axis: Vec3, radius: f64, from: Vec3, t: f64) -
 }
 
 // From the centre to the circle on the side of `from`.
-pub fn spoke(center: Vec3, axis: Vec3, radius: f64, from: Vec3) -> CheckedVec3
-    ensures refusal { λ r. ⌜ r .refusal ≡ spokeC center axis radius from .refusal ⌝ }
-    ensures value { λ r. ⌜ r .value ≡ spokeC center axis radius from .value ⌝ }
+pub fn radius_vector(center: Vec3, axis: Vec3, radius: f64, from: Vec3) -> CheckedVec3
+    ensures refusal { λ r. ⌜ r .refusal ≡ radiusVectorC center axis radius from .refusal ⌝ }
+    ensures value { λ r. ⌜ r .value ≡ radiusVectorC center axis radius from .value ⌝ }
 {
     let a = across(axis, minus(from, center));
     let l = length(a);
@@ -44,11 +44,11 @@ pub fn at(center: Vec3, axis: Vec3, radius: f64, from: Vec3, t: f64) -> CheckedV
     ensures refusal { λ r. ⌜ r .refusal ≡ atC center axis radius from t .refusal ⌝ }
     ensures value { λ r. ⌜ r .value ≡ atC center axis radius from t .value ⌝ }
 {
-    let d = spoke(center, axis, radius, from);
+    let d = radius_vector(center, axis, radius, from);
     let start = d.value;
     let quarter = cross(axis, start);
     let p = point(
-        Rim {
+        Circle {
             center: center,
             start: start,
             quarter: quarter,

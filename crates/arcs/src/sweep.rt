@@ -1,7 +1,7 @@
 // How far a point is turned about an axis, on numbers of any size: counterclockwise about `axis`,
 // around `center`.
 ghost use mathlib.Core.Path.{_≡_};
-ghost use Rattle.arcs.specs.Sweeps.{circleWithin, endsWithin, sweepFromC, sweepC};
+ghost use Rattle.arcs.specs.Sweep.{circleWithin, endsWithin, sweepFromC, sweepC};
 use checked::CheckedNumber;
 use checked::is_within;
 use checked::note;

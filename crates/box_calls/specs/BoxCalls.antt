@@ -16,7 +16,7 @@ use Rattle.boxes.specs.Boxes.{free, empty, Sound, boxCall}
 use Rattle.boxes.specs.Demand3 as Demand3
 use Rattle.boxes.specs.Demand3.{answer, Met, SameAccepted, SameBox}
 use Rattle.arcs.specs.declared.Arc.{Arc}
-use Rattle.arcs.specs.Sweeps.{circleWithin, endsWithin}
+use Rattle.arcs.specs.Sweep.{circleWithin, endsWithin}
 use Rattle.arcs.specs.Entries as arcs
 use Rattle.curves.specs.declared.Curve.{Curve}
 use Rattle.curves.specs.declared.Curve.the-variants as curve

@@ -13,7 +13,7 @@ use Rattle.checked.specs.Checked.{Checked, _>>=_, given, Due, due, refused, ans
 use Rattle.checked.specs.Answers.{numberOf, after}
 use Rattle.checked.specs.Tests.{fails, _or_, passing}
 use Rattle.boxes.specs.declared.Bounds.{Bounds}
-use Rattle.boxes.specs.declared.Outcome.{Outcome}
+use Rattle.boxes.specs.declared.BoxOutcome.{BoxOutcome}
 use Rattle.boxes.specs.declared.Widened.{Widened}
 use Rattle.boxes.specs.declared.Widened.the-variants as widened-variants
 
@@ -92,5 +92,5 @@ boxCall handed points b =
       given (widenedBy b ps)))
 
 -- what a call on a lent box leaves of it, and the number that it answers
-abbrev pub outcome : Bounds → Due Bounds → Outcome
+abbrev pub outcome : Bounds → Due Bounds → BoxOutcome
 outcome b d = record { bounds = after b d; number = numberOf d }

@@ -25,7 +25,7 @@ pub enum Widened {
 }
 
 // What a call leaves of the box that was lent, and the number that it answers: 0 where the edge is accepted.
-pub struct Outcome {
+pub struct BoxOutcome {
     pub bounds: Bounds,
     pub number: u8,
 }
@@ -73,15 +73,15 @@ pub fn settle(c: CheckedBounds) -> Widened
 }
 
 // What is left of the box b after a call with this answer: b itself where it was refused.
-pub fn after(b: Bounds, answer: Widened) -> Outcome
+pub fn after(b: Bounds, answer: Widened) -> BoxOutcome
     ensures { λ r. ⌜ r ≡ Boxes.outcome b (Boxes.widenedDue answer) ⌝ }
 {
     match answer {
-        Widened::Box(c) => Outcome {
+        Widened::Box(c) => BoxOutcome {
             bounds: c,
             number: 0,
         },
-        Widened::Refused(n) => Outcome {
+        Widened::Refused(n) => BoxOutcome {
             bounds: b,
             number: n,
         },

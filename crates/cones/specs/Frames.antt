@@ -4,12 +4,12 @@ use mathlib.Core.Bool.{cond}
 use lib.Dec.{ltb}
 use lib.Ieee.{Float}
 use Rattle.checked.specs.Checked.{Checked, _>>=_, given, num}
-use Rattle.float_bits.specs.Words.{size}
+use Rattle.float_bits.specs.FloatBits.{size}
 use Rattle.vectors.specs.declared.Vec3.{Vec3}
 use Rattle.vectors.specs.Vectors.{along-x, along-y, along-z, vec, _⊞_, _⊟_, _⊠_, _⊡_, _⨯_}
 use Rattle.directions.specs.Directions.{acrossC, unitC}
 use Rattle.profile_arcs.specs.Angles.{atan2C}
-use Rattle.libm.specs.Circle.{sincosC}
+use Rattle.libm.specs.Sincos.{sincosC}
 use Rattle.cones.specs.declared.Cone.{Cone}
 use Rattle.cones.specs.declared.Frame.{Frame}
 

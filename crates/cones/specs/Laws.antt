@@ -9,7 +9,7 @@ use Rattle.vectors.specs.Vectors.{along-x, along-y, along-z, nines, minusC, dot
 use Rattle.vectors.specs.Laws.{rules as vectors-rules}
 use Rattle.directions.specs.Directions.{lengthC, acrossC}
 use Rattle.directions.specs.Laws.{unit-refusal, rules as directions-rules}
-use Rattle.libm.specs.Circle.{sincosC}
+use Rattle.libm.specs.Sincos.{sincosC}
 use Rattle.cones.specs.declared.Cone.{Cone}
 use Rattle.cones.specs.declared.Frame.{Frame}
 use Rattle.cones.specs.Frames.{leastAxis, frameC, angleC, pointC}

@@ -9,14 +9,14 @@ use Rattle.checked.specs.Refusals.{OUT-OF-RANGE, NEUTRAL-NOT-POSITIVE, ARC-AND-
 use Rattle.checked.specs.Checked.{limit}
 use Rattle.checked.specs.Numbers.{literal, pi, tau, quarterPi}
 use Rattle.libm.specs.Atan.{ATANHI1, ATANLO1, ATANHI3, ATANLO3}
-use Rattle.libm.specs.Arctangent.{PI-LO}
-use Rattle.libm.specs.Arccosine.{PIO2-HI, PIO2-LO}
-use Rattle.libm.specs.Reduction.{INV-PIO2, PIO2-1, PIO2-1T, PIO2-2, PIO2-2T, PIO2-3, PIO2-3T}
+use Rattle.libm.specs.Atan2.{PI-LO}
+use Rattle.libm.specs.Acos.{PIO2-HI, PIO2-LO}
+use Rattle.libm.specs.RemPio2.{INV-PIO2, PIO2-1, PIO2-1T, PIO2-2, PIO2-2T, PIO2-3, PIO2-3T}
 use Rattle.chord_counts.specs.Chords.{fewest, most}
 use Rattle.chord_counts.specs.Counts.{MOST}
-use Rattle.waves.specs.Ranges.{TURNING-POINTS}
+use Rattle.waves.specs.TurningPoints.{TURNING-POINTS}
 use Rattle.integrals.specs.Gauss as gauss
-use Rattle.piece_boxes.specs.Windows.{intervals, HALVINGS}
+use Rattle.piece_boxes.specs.Brackets.{intervals, HALVINGS}
 use Rattle.piece_boxes.specs.MeetBoxes.{SAMPLES, WINDOWS}
 use Rattle.piece_lengths.specs.Measures.{CHORDS, PLACES, steps}
 use Rattle.piece_lengths.specs.Counts as counts

@@ -12,7 +12,7 @@ use Rattle.motions.specs.declared.Rigid.{Rigid}
 use Rattle.motions.specs.Motions.{withinRigid}
 use Rattle.boxes.specs.declared.Bounds.{Bounds}
 use Rattle.boxes.specs.Boxes.{boxCall}
-use Rattle.arcs.specs.Sweeps.{circleWithin}
+use Rattle.arcs.specs.Sweep.{circleWithin}
 use Rattle.arcs.specs.declared.Arc.{Arc}
 use Rattle.pieces.specs.Entries as pieces
 use Rattle.curves.specs.declared.Curve.{Curve}

@@ -1,5 +1,5 @@
 pub mod Curves
-pub mod DrawnEntries
+pub mod Drawn
 pub mod Entries
 pub mod Laws
 pub mod Parts

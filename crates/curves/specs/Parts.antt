@@ -9,7 +9,7 @@ use Rattle.arcs.specs.declared.Arc.{Arc}
 use Rattle.developments.specs.Developments as developments
 use Rattle.pieces.specs.declared.Rolled.{Rolled}
 use Rattle.pieces.specs.Pieces.{runC}
-use Rattle.piece_boxes.specs.Bounds as bounds
+use Rattle.piece_boxes.specs.SpaceBoxes as bounds
 
 -- the centre turned and shifted, the axis turned
 unfoldable pub movedArcC : Arc → Rigid → Checked Arc

@@ -5,7 +5,7 @@ use Rattle.boxes.specs.Boxes.{Sound}
 use Rattle.boxes.specs.Laws.{sound-then}
 use Rattle.pieces.specs.declared.Rolled.{Rolled}
 use Rattle.pieces.specs.Pieces.{runC}
-use Rattle.piece_boxes.specs.Bounds as bounds
+use Rattle.piece_boxes.specs.SpaceBoxes as bounds
 use Rattle.piece_boxes.specs.SpaceBoxesLaws as bounds-laws
 use Rattle.curves.specs.Parts.{pieceC}
 

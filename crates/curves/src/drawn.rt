@@ -4,7 +4,7 @@ ghost use mathlib.Core.Path.{_≡_};
 ghost use lib.ListN.{length};
 ghost use Rattle.checked.specs.Answers.{numberOf};
 ghost use Rattle.rows.specs.Rows.{partOf, Drawn};
-ghost use Rattle.curves.specs.DrawnEntries.{chordsOf, ready, tests, pieceDue, innerPointsDue};
+ghost use Rattle.curves.specs.Drawn.{chordsOf, ready, tests, pieceDue, innerPointsDue};
 use crate::Curve;
 use crate::RolledAt;
 use checked::OUT_OF_RANGE;

@@ -9,8 +9,8 @@ use arcs::Arc;
 use arcs::extremes;
 use arcs::sweep::circle_within;
 use boxes::Bounds;
+use boxes::BoxOutcome;
 use boxes::CheckedBounds;
-use boxes::Outcome;
 use boxes::Widened;
 use checked::BAD_BOX_OR_SUMS;
 use checked::OUT_OF_RANGE;
@@ -156,7 +156,7 @@ impl Curve {
     }
 
     // What is left of a box after the call, and the number that it answers.
-    pub fn outcome(self, from: Vec3, to: Vec3, bounds: Bounds) -> Outcome
+    pub fn outcome(self, from: Vec3, to: Vec3, bounds: Bounds) -> BoxOutcome
         ensures { λ r. ⌜ r ≡ outcome bounds (extendDue self from to bounds) ⌝ }
     {
         boxes::after(bounds, self.extended(from, to, bounds))

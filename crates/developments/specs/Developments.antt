@@ -10,7 +10,7 @@ use Rattle.vectors.specs.declared.Vec2.{Vec2}
 use Rattle.vectors.specs.declared.Vec3.{Vec3}
 use Rattle.vectors.specs.Vectors.{within2, within3}
 use Rattle.developments.specs.declared.formulas.Unrolled.{Unrolled}
-use Rattle.developments.specs.Rolls.{radialC, pointC, alongC, unrollC}
+use Rattle.developments.specs.Formulas.{radialAtC, pointC, alongC, unrollC}
 use Rattle.developments.specs.declared.Development.{Development}
 use Rattle.developments.specs.declared.UnrolledPoint.{UnrolledPoint}
 use Rattle.developments.specs.declared.UnrolledPoint.the-variants as unrolled-point
@@ -41,7 +41,7 @@ developmentWithin d = within3 (d .origin) && (within3 (d .axis) && (within3 (d .
 -- ---- what is due
 -- `Development::radial`
 unfoldable pub radialDue : Development → Float → Due Vec3
-radialDue d u = passing (fails OUT-OF-RANGE (developmentWithin d && within u) or neutralTest (d .neutral)) (answered (radialC (d .axis) (d .start) (d .neutral) u))
+radialDue d u = passing (fails OUT-OF-RANGE (developmentWithin d && within u) or neutralTest (d .neutral)) (answered (radialAtC (d .axis) (d .start) (d .neutral) u))
 
 -- `Development::point`
 unfoldable pub pointDue : Development → Vec2 → Float → Due Vec3

@@ -4,26 +4,26 @@ use lib.Ieee.{Float, binary64, div}
 use Rattle.checked.specs.Checked.{Checked, first, nine}
 use Rattle.checked.specs.Laws.{rules as checked-rules}
 use Rattle.profile_arcs.specs.Angles.{atan2C}
-use Rattle.libm.specs.Circle.{sincosC}
+use Rattle.libm.specs.Sincos.{sincosC}
 use Rattle.directions.specs.Laws.{rules as directions-rules}
 use Rattle.vectors.specs.declared.Vec2.{Vec2}
 use Rattle.vectors.specs.declared.Vec3.{Vec3}
 use Rattle.vectors.specs.Vectors.{nines, plusC, minusC, timesC, crossC, dotC}
 use Rattle.vectors.specs.Laws.{rules as vectors-rules}
-use Rattle.developments.specs.Rolls.{radialC, pointC, alongC, unrollC}
+use Rattle.developments.specs.Formulas.{radialAtC, pointC, alongC, unrollC}
 
 ruleset all = (checked-rules, vectors-rules, directions-rules)
 
-pub radial-refusal : (axis start : Vec3) (neutral u : Float) → radialC axis start neutral u .refusal ≡ first (sincosC (div binary64 u neutral) .refusal) (nines (radialC axis start neutral u .value))
-unfolding radialC
+pub radial-refusal : (axis start : Vec3) (neutral u : Float) → radialAtC axis start neutral u .refusal ≡ first (sincosC (div binary64 u neutral) .refusal) (nines (radialAtC axis start neutral u .value))
+unfolding radialAtC
 radial-refusal axis start neutral u = simp all
 
 -- the centre is noted before the sine, which may be refused by another number
-pub point-refusal : (o axis start : Vec3) (neutral : Float) (p : Vec2) (r : Float) → pointC o axis start neutral p r .refusal ≡ first (nines (plusC o (timesC axis (p .y) .value) .value)) (first (radialC axis start neutral (p .x) .refusal) (nines (pointC o axis start neutral p r .value)))
+pub point-refusal : (o axis start : Vec3) (neutral : Float) (p : Vec2) (r : Float) → pointC o axis start neutral p r .refusal ≡ first (nines (plusC o (timesC axis (p .y) .value) .value)) (first (radialAtC axis start neutral (p .x) .refusal) (nines (pointC o axis start neutral p r .value)))
 unfolding pointC
 point-refusal o axis start neutral p r = simp (radial-refusal, all)
 
-pub along-refusal : (axis start : Vec3) (neutral : Float) (p d : Vec2) (r : Float) → alongC axis start neutral p d r .refusal ≡ first (radialC axis start neutral (p .x) .refusal) (nines (alongC axis start neutral p d r .value))
+pub along-refusal : (axis start : Vec3) (neutral : Float) (p d : Vec2) (r : Float) → alongC axis start neutral p d r .refusal ≡ first (radialAtC axis start neutral (p .x) .refusal) (nines (alongC axis start neutral p d r .value))
 unfolding alongC
 along-refusal axis start neutral p d r = simp (radial-refusal, all)
 

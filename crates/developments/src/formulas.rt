@@ -1,7 +1,7 @@
 // A rolled sheet's formulas on numbers of any size. The sheet lies around the axis through `origin` along `axis`; `start`, across the axis, is where u
 // is 0, and u is length at the neutral radius.
 ghost use mathlib.Core.Path.{_≡_};
-ghost use Rattle.developments.specs.Rolls.{radialC, pointC, alongC, unrollC};
+ghost use Rattle.developments.specs.Formulas.{radialAtC, pointC, alongC, unrollC};
 use checked::TAU;
 use checked::earlier;
 use checked::note;
@@ -32,8 +32,8 @@ pub struct CheckedUnrolled {
 
 // The unit vector away from the axis at u.
 pub fn radial(axis: Vec3, start: Vec3, neutral: f64, u: f64) -> CheckedVec3
-    ensures refusal { λ r. ⌜ r .refusal ≡ radialC axis start neutral u .refusal ⌝ }
-    ensures value { λ r. ⌜ r .value ≡ radialC axis start neutral u .value ⌝ }
+    ensures refusal { λ r. ⌜ r .refusal ≡ radialAtC axis start neutral u .refusal ⌝ }
+    ensures value { λ r. ⌜ r .value ≡ radialAtC axis start neutral u .value ⌝ }
 {
     let t = sincos(u / neutral);
     let v = plus(times(start, t.cos), times(cross(axis, start), t.sin));

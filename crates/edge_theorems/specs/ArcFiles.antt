@@ -18,7 +18,7 @@ use Rattle.vectors.specs.declared.Vec3.{Vec3}
 use Rattle.boxes.specs.Boxes.{free, empty, widenedBy}
 use Rattle.boxes.specs.Laws.{empty-free}
 use Rattle.boxes.specs.Demand3.{answer}
-use Rattle.arcs.specs.Sweeps.{endsWithin}
+use Rattle.arcs.specs.Sweep.{endsWithin}
 use Rattle.arcs.specs.Entries.{points}
 use Rattle.box_calls.specs.BoxCalls.{callDue}
 use Rattle.decimals.specs.Thousandths.{thousandths, nearest-up, most, signed}

@@ -3,7 +3,7 @@ ghost use mathlib.Core.Path.{_≡_};
 ghost use lib.ListN.{length};
 ghost use Rattle.rows.specs.Rows as Rows;
 ghost use Rattle.curves.specs.Entries as Curves;
-ghost use Rattle.curves.specs.DrawnEntries.{innerPointsDue};
+ghost use Rattle.curves.specs.Drawn.{innerPointsDue};
 ghost use Rattle.checked.specs.Answers.{numberOf};
 ghost use Rattle.c_arrays.specs.Records.{vec3, after, tagDue};
 ghost use Rattle.c_arrays.specs.ArcRecords.{rigid, bounds, ofArc, ofBounds, afterCount};

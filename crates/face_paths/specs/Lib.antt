@@ -1,4 +1,4 @@
 pub mod ArcPaths
-pub mod Glides
 pub mod Paths
 pub mod PiecePaths
+pub mod PieceRates

@@ -6,31 +6,31 @@ use Rattle.vectors.specs.declared.Vec3.{Vec3}
 use Rattle.developments.specs.declared.Development.{Development}
 use Rattle.piece_curves.specs.declared.PieceArc.{PieceArc}
 use Rattle.piece_curves.specs.declared.PieceTrace.{PieceTrace}
-use Rattle.piece_curves.specs.Runs.{runC}
+use Rattle.piece_curves.specs.PieceCurves.{curveC}
 use Rattle.piece_lengths.specs.Counts.{quadratureC}
 use Rattle.arcs.specs.declared.Arc.{Arc}
 use Rattle.cones.specs.declared.Cone.{Cone}
 use Rattle.integrals.specs.declared.Integrals.{Integrals}
 use Rattle.integrals.specs.declared.integrands.Revolved.{Revolved}
-use Rattle.integrals.specs.declared.integrands.Place.{Place}
+use Rattle.integrals.specs.declared.integrands.PathPoint.{PathPoint}
 use Rattle.integrals.specs.Along.{pathAlongC}
 use Rattle.integrals.specs.Integrands.{revolvedC}
-use Rattle.face_paths.specs.ArcPaths.{courseAt, arcPathC}
-use Rattle.face_paths.specs.PiecePaths.{driftC, driftAt}
-use Rattle.face_paths.specs.declared.Track.{Track}
-use Rattle.face_paths.specs.declared.Track.the-variants as track
+use Rattle.face_paths.specs.ArcPaths.{arcPathAt, arcPathC}
+use Rattle.face_paths.specs.PiecePaths.{piecePathOfC, piecePathAt}
+use Rattle.face_paths.specs.declared.FacePath.{FacePath}
+use Rattle.face_paths.specs.declared.FacePath.the-variants as track
 
 -- where a path is at t
-unfoldable pub trackAt : Track → Float → Checked Place
-trackAt (track.Arc c) = courseAt c
-trackAt (track.Piece d) = driftAt d
+unfoldable pub facePathAt : FacePath → Float → Checked PathPoint
+facePathAt (track.Arc c) = arcPathAt c
+facePathAt (track.Piece d) = piecePathAt d
 
 -- the running sums after a piece of the development `dev`
 unfoldable pub piecePathC : Revolved → Development → Vec2 → Vec2 → PieceArc → PieceTrace → Integrals → Checked Integrals
 piecePathC v dev from to arc trace s = do
-  c ← driftC (v .frame) (dev .origin) (dev .axis) (dev .start) (runC from to (dev .neutral) arc trace)
+  c ← piecePathOfC (v .frame) (dev .origin) (dev .axis) (dev .start) (curveC from to (dev .neutral) arc trace)
   n ← quadratureC (c .run)
-  t ← pathAlongC v (driftAt c) n (s .surface)
+  t ← pathAlongC v (piecePathAt c) n (s .surface)
   given (record { surface = t })
 
 -- ---- where a path's call works out the surface for itself

@@ -7,16 +7,16 @@ use Rattle.vectors.specs.Vectors.{vec, _⊟_, _⊡_}
 use Rattle.profile_arcs.specs.Angles.{atan2C}
 use Rattle.cones.specs.declared.Frame.{Frame}
 use Rattle.integrals.specs.Sums.{side}
-use Rattle.integrals.specs.declared.integrands.Place.{Place}
-use Rattle.piece_curves.specs.declared.Run.{Run}
-use Rattle.piece_curves.specs.declared.CheckedRun.{CheckedRun}
-use Rattle.face_paths.specs.Glides.{glideC}
-use Rattle.face_paths.specs.declared.piece_paths.Drift.{Drift}
+use Rattle.integrals.specs.declared.integrands.PathPoint.{PathPoint}
+use Rattle.piece_curves.specs.declared.PieceCurve.{PieceCurve}
+use Rattle.piece_curves.specs.declared.CheckedPieceCurve.{CheckedPieceCurve}
+use Rattle.face_paths.specs.PieceRates.{rateC}
+use Rattle.face_paths.specs.declared.piece_paths.PiecePath.{PiecePath}
 
 -- which way u turns, the angle where the development starts, where its origin lies along the axis,
 -- and the piece itself
-unfoldable pub driftC : Frame → Vec3 → Vec3 → Vec3 → Checked Run → Checked Drift
-driftC f origin axis start piece = do
+unfoldable pub piecePathOfC : Frame → Vec3 → Vec3 → Vec3 → Checked PieceCurve → Checked PiecePath
+piecePathOfC f origin axis start piece = do
   d ← vec axis ⊡ vec (f .axis)
   a ← atan2C (vec start ⊡ vec (f .e2)) (vec start ⊡ vec (f .e1))
   z ← (vec origin ⊟ vec (f .origin)) ⊡ vec (f .axis)
@@ -24,13 +24,13 @@ driftC f origin axis start piece = do
   given (record { run = run; start = a; side = side d; z = z })
 
 -- a piece that was worked out
-abbrev pub held : CheckedRun → Checked Run
+abbrev pub held : CheckedPieceCurve → Checked PieceCurve
 held r = record { refusal = r .refusal; value = r .value }
 
 -- where the piece is at t, from 0 at its first end to 1 at its last
-unfoldable pub driftAt : Drift → Float → Checked Place
-driftAt c t = do
-  g ← glideC (c .run) t
+unfoldable pub piecePathAt : PiecePath → Float → Checked PathPoint
+piecePathAt c t = do
+  g ← rateC (c .run) t
   theta ← num (c .start) ⊕ num (c .side) ⊗ num (g .u) ⊘ num (c .run .neutral)
   z ← num (c .z) ⊕ num (c .side) ⊗ num (g .v)
   turn ← num (c .side) ⊗ num (g .du) ⊘ num (c .run .neutral)

@@ -2,15 +2,15 @@
 // stretches and their nodes. Numbers may be of any size.
 ghost use mathlib.Core.Path.{_≡_};
 ghost use Rattle.checked.specs.Checked.{first};
-ghost use Rattle.integrals.specs.Gauss.{stretchAtC};
+ghost use Rattle.integrals.specs.Gauss.{panelAtC};
 ghost use Rattle.integrals.specs.Along.{nodeAtC, pathAlongC};
-ghost use Rattle.face_paths.specs.Paths.{trackAt, withArcC, withPieceC};
-use crate::arc_paths::Course;
-use crate::arc_paths::course_at;
-use crate::arc_paths::course_of;
-use crate::piece_paths::Drift;
-use crate::piece_paths::drift_at;
-use crate::piece_paths::drift_of;
+ghost use Rattle.face_paths.specs.Paths.{facePathAt, withArcC, withPieceC};
+use crate::arc_paths::ArcPath;
+use crate::arc_paths::arc_path_at;
+use crate::arc_paths::arc_path_of;
+use crate::piece_paths::PiecePath;
+use crate::piece_paths::piece_path_at;
+use crate::piece_paths::piece_path_of;
 use arcs::Arc;
 use checked::earlier;
 use checked::note;
@@ -20,7 +20,7 @@ use integrals::CheckedIntegrals;
 use integrals::CheckedSurfaceIntegrals;
 use integrals::Integrals;
 use integrals::WEIGHTS;
-use integrals::integrands::CheckedPlace;
+use integrals::integrands::CheckedPathPoint;
 use integrals::integrands::Revolved;
 use integrals::integrands::node;
 use integrals::integrands::revolve;
@@ -28,43 +28,43 @@ use integrals::lies;
 use integrals::lies_noted;
 use piece_curves::PieceArc;
 use piece_curves::PieceTrace;
-use piece_curves::run_of;
+use piece_curves::curve_of;
 use piece_lengths::counts::quadrature_pieces;
 use vectors::Vec2;
 use vectors::Vec3;
 
 pub mod arc_paths;
-pub mod glides;
 pub mod piece_paths;
+pub mod piece_rates;
 
 // A path as the loops run along it.
-pub enum Track {
-    Arc(Course),
-    Piece(Drift),
+pub enum FacePath {
+    Arc(ArcPath),
+    Piece(PiecePath),
 }
 
 // Where the path is at t.
-fn place_at(k: Track, t: f64) -> CheckedPlace
-    ensures refusal { λ r. ⌜ r .refusal ≡ trackAt k t .refusal ⌝ }
-    ensures value { λ r. ⌜ r .value ≡ trackAt k t .value ⌝ }
+fn place_at(k: FacePath, t: f64) -> CheckedPathPoint
+    ensures refusal { λ r. ⌜ r .refusal ≡ facePathAt k t .refusal ⌝ }
+    ensures value { λ r. ⌜ r .value ≡ facePathAt k t .value ⌝ }
 {
     match k {
-        Track::Arc(c) => course_at(c, t),
-        Track::Piece(d) => drift_at(d, t),
+        FacePath::Arc(c) => arc_path_at(c, t),
+        FacePath::Piece(d) => piece_path_at(d, t),
     }
 }
 
 // The sums after the node at t.
 fn node_at(
     v: Revolved,
-    k: Track,
+    k: FacePath,
     h: f64,
     wgt: f64,
     t: f64,
     s: CheckedSurfaceIntegrals,
 ) -> CheckedSurfaceIntegrals
-    ensures refusal { λ r. ⌜ r .refusal ≡ first (s .refusal) (nodeAtC v (trackAt k) h wgt t (s .value) .refusal) ⌝ }
-    ensures value { λ r. ⌜ r .value ≡ nodeAtC v (trackAt k) h wgt t (s .value) .value ⌝ }
+    ensures refusal { λ r. ⌜ r .refusal ≡ first (s .refusal) (nodeAtC v (facePathAt k) h wgt t (s .value) .refusal) ⌝ }
+    ensures value { λ r. ⌜ r .value ≡ nodeAtC v (facePathAt k) h wgt t (s .value) .value ⌝ }
 {
     let q = place_at(k, t);
     let p = q.value;
@@ -82,15 +82,15 @@ fn node_at(
 }
 
 // The stretch i, of length h.
-fn stretch(
+fn panel(
     v: Revolved,
-    k: Track,
+    k: FacePath,
     h: f64,
     i: u16,
     s: CheckedSurfaceIntegrals,
 ) -> CheckedSurfaceIntegrals
-    ensures refusal { λ r. ⌜ r .refusal ≡ first (s .refusal) (stretchAtC (nodeAtC v (trackAt k)) h i (s .value) .refusal) ⌝ }
-    ensures value { λ r. ⌜ r .value ≡ stretchAtC (nodeAtC v (trackAt k)) h i (s .value) .value ⌝ }
+    ensures refusal { λ r. ⌜ r .refusal ≡ first (s .refusal) (panelAtC (nodeAtC v (facePathAt k)) h i (s .value) .refusal) ⌝ }
+    ensures value { λ r. ⌜ r .value ≡ panelAtC (nodeAtC v (facePathAt k)) h i (s .value) .value ⌝ }
 {
     let mid = h * ((i as f64) + 0.5);
     let start = s.value;
@@ -119,9 +119,9 @@ fn stretch(
 }
 
 // All n stretches of the path.
-fn along(v: Revolved, k: Track, n: u16, s: CheckedSurfaceIntegrals) -> CheckedSurfaceIntegrals
-    ensures refusal { λ r. ⌜ r .refusal ≡ first (s .refusal) (pathAlongC v (trackAt k) n (s .value) .refusal) ⌝ }
-    ensures value { λ r. ⌜ r .value ≡ pathAlongC v (trackAt k) n (s .value) .value ⌝ }
+fn along(v: Revolved, k: FacePath, n: u16, s: CheckedSurfaceIntegrals) -> CheckedSurfaceIntegrals
+    ensures refusal { λ r. ⌜ r .refusal ≡ first (s .refusal) (pathAlongC v (facePathAt k) n (s .value) .refusal) ⌝ }
+    ensures value { λ r. ⌜ r .value ≡ pathAlongC v (facePathAt k) n (s .value) .value ⌝ }
 {
     let h = 1.0 / (n as f64);
     let start = s.value;
@@ -131,7 +131,7 @@ fn along(v: Revolved, k: Track, n: u16, s: CheckedSurfaceIntegrals) -> CheckedSu
     };
     let mut i: u16 = 0;
     while i < n {
-        a = stretch(v, k, h, i, a);
+        a = panel(v, k, h, i, a);
         i += 1;
     }
     a
@@ -151,13 +151,13 @@ pub fn with_arc(
 {
     let w = revolve(cone, o);
     let s = w.value;
-    let c = course_of(s.frame, arc, u, v);
+    let c = arc_path_of(s.frame, arc, u, v);
     let d = c.value;
     let n = d.stretches;
     let before = sums.surface;
     let a = along(
         s,
-        Track::Arc(d),
+        FacePath::Arc(d),
         n,
         CheckedSurfaceIntegrals {
             value: before,
@@ -187,14 +187,14 @@ pub fn with_piece(
 {
     let w = revolve(cone, o);
     let s = w.value;
-    let r = run_of(from, to, dev.neutral, arc, trace);
-    let c = drift_of(s.frame, dev.origin, dev.axis, dev.start, r);
+    let r = curve_of(from, to, dev.neutral, arc, trace);
+    let c = piece_path_of(s.frame, dev.origin, dev.axis, dev.start, r);
     let d = c.value;
     let n = quadrature_pieces(d.run);
     let before = sums.surface;
     let a = along(
         s,
-        Track::Piece(d),
+        FacePath::Piece(d),
         n.value,
         CheckedSurfaceIntegrals {
             value: before,

@@ -15,7 +15,7 @@ use Rattle.checked.specs.PatternLaws.{yes, no, ne-self}
 use Rattle.checked.specs.Numbers.{literal}
 use Rattle.checked.specs.Refusals.{NOT-FINITE}
 use Rattle.checked.specs.Checked.{isFinite, nine}
-use Rattle.float_bits.specs.Words.{size, sign, signed, choose, fabs}
+use Rattle.float_bits.specs.FloatBits.{size, sign, signed, choose, fabs}
 use Rattle.float_bits.specs.Computations.{absC}
 
 -- ---- |x| is the number of the pattern without its sign

@@ -1,5 +1,5 @@
-pub mod Words
 pub mod Computations
+pub mod FloatBits
 pub mod Laws
 pub mod Signs
 pub mod Special

@@ -10,7 +10,7 @@ use borrow.Author.Tests.{ne-eqb, lt-leb}
 use lib.Ieee.{Float, nan, inf, fin, binary64, up, down, lt, isNan, toBits, ofBits, ofFields, fits}
 use Rattle.checked.specs.Patterns.{bits}
 use Rattle.checked.specs.Numbers.{literal}
-use Rattle.float_bits.specs.Words.{size, sign, fabs}
+use Rattle.float_bits.specs.FloatBits.{size, sign, fabs}
 use Rattle.float_bits.specs.Laws.{fabs-bits, bits-fabs}
 
 -- +0, and the zero of a sign

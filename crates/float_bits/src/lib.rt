@@ -1,7 +1,7 @@
 // What libm's functions read of a number's bit pattern besides its high word, for every number.
 ghost use mathlib.Core.Path.{_≡_};
 ghost use lib.Ieee as Ieee;
-ghost use Rattle.float_bits.specs.Words as W;
+ghost use Rattle.float_bits.specs.FloatBits as W;
 
 // The pattern without its sign.
 pub fn size(x: f64) -> u64

@@ -7,7 +7,7 @@ use lib.Dec.{T}
 use lib.Ieee.{Float, nan, inf, fin, up, down, neg, le, lt, isNan}
 use Rattle.checked.specs.Checked.{isFinite}
 use Rattle.order.specs.Order.{Number, le-numbers, not-lt-le, le-trans-of, lt-not-le, lt-le}
-use Rattle.float_bits.specs.Words.{fabs}
+use Rattle.float_bits.specs.FloatBits.{fabs}
 use Rattle.float_bounds.specs.Parts.{nought, le-parts, le-back}
 
 decided : (b : Bool) → (T (not b) → ⊥) → T b

@@ -16,7 +16,7 @@ use Rattle.checked.specs.Checked.{isFinite}
 use Rattle.checked.specs.Patterns.{bits, high-word}
 use Rattle.order.specs.Order.{le-trans-of, lt-not-le}
 use Rattle.checked.specs.Numbers.{literal}
-use Rattle.float_bits.specs.Words.{size, fabs}
+use Rattle.float_bits.specs.FloatBits.{size, fabs}
 use Rattle.float_bits.specs.Laws.{fabs-bits}
 use Rattle.float_bits.specs.Signs.{finite-exponent}
 use Rattle.rounding.specs.Patterns.{fields, mid-value}

@@ -14,7 +14,7 @@ use lib.Ieee.Order.{round-mono}
 use Rattle.checked.specs.Checked.{isFinite}
 use Rattle.order.specs.Order.{le-trans-of, le-refl-of}
 use Rattle.rounding.specs.Values.{neg-round}
-use Rattle.float_bits.specs.Words.{fabs}
+use Rattle.float_bits.specs.FloatBits.{fabs}
 use Rattle.float_bounds.specs.Parts.{plus, minus, above, under, den, den-pos, le-parts, le-back, neg-le, neg-twice, add-le, rounds-le, mul-rounds}
 
 -- from lo up to hi

@@ -12,7 +12,7 @@ use borrow.Author.Tests.{ltb-true, ltb-false}
 use Rattle.checked.specs.Checked.{isFinite}
 use Rattle.checked.specs.Numbers.{literal}
 use Rattle.order.specs.Order.{le-trans-of}
-use Rattle.float_bits.specs.Words.{size, fabs}
+use Rattle.float_bits.specs.FloatBits.{size, fabs}
 use Rattle.float_bits.specs.Laws.{fabs-bits}
 use Rattle.float_bits.specs.Signs.{finite-exponent}
 use Rattle.float_bounds.specs.Parts.{nought, neg-le, neg-twice}

@@ -20,7 +20,7 @@ use Rattle.checked.specs.Checked.{isFinite}
 use Rattle.order.specs.Order.{le-refl-of}
 use Rattle.rounding.specs.Values.{fits-small, fits-low, whole-is}
 use Rattle.rounding.specs.Patterns.{value-unique}
-use Rattle.float_bits.specs.Words.{fabs}
+use Rattle.float_bits.specs.FloatBits.{fabs}
 use Rattle.float_bits.specs.Laws.{fabs-fits}
 use Rattle.float_bounds.specs.Parts.{plus, minus, above, under, nought, zero-round, positive-round, le-parts, add-le}
 use Rattle.float_bounds.specs.Intervals.{Upto, plain, upto-mul, upto-div, neg-finite, finite-number, not-none}

@@ -11,7 +11,7 @@ use lib.Pow.{pow-add, pow-lt, pow-mono}
 use lib.Ieee.{Float, fin, binary64, round, sum, neg, add, sub, mul, div, le, fits, ofBits}
 use lib.Ieee.Fits.{and-l, and-r}
 use Rattle.checked.specs.Checked.{isFinite, within}
-use Rattle.float_bits.specs.Words.{fabs}
+use Rattle.float_bits.specs.FloatBits.{fabs}
 use Rattle.rounding.specs.Values.{whole-is}
 use Rattle.float_bounds.specs.Parts.{le-back}
 use Rattle.float_bounds.specs.Intervals.{Upto, upto-finite, upto-mul, upto-add, upto-sub, upto-wider, upto-div, upto-neg, in-upto}

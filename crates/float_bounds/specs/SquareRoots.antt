@@ -23,7 +23,7 @@ use Rattle.rounding.specs.Values.{fits-under, fits-low}
 use Rattle.float_bounds.specs.Parts.{nought, le-back}
 use Rattle.float_bounds.specs.Intervals.{Upto, plain, positive, upto-parts, fabs-units}
 use Rattle.float_bounds.specs.Powers.{pow}
-use Rattle.float_bits.specs.Words.{fabs}
+use Rattle.float_bits.specs.FloatBits.{fabs}
 
 -- 2 ^ -537
 abbrev pub least-root : Float

@@ -7,7 +7,7 @@ use lib.Dec.{T}
 use lib.Ieee.{Float, nan, inf, fin, Format, binary64, up, down, sum, add, mul, fits, isNan}
 use Rattle.checked.specs.Checked.{isFinite}
 use Rattle.checked.specs.Patterns.{bits}
-use Rattle.float_bits.specs.Words.{fabs, sign}
+use Rattle.float_bits.specs.FloatBits.{fabs, sign}
 use Rattle.float_bits.specs.Laws.{bits-fabs}
 use Rattle.float_bounds.specs.Intervals.{plain, fabs-round}
 

@@ -6,10 +6,10 @@ use Rattle.checked.specs.Checked.{Checked, _>>=_}
 use Rattle.integrals.specs.declared.SurfaceIntegrals.{SurfaceIntegrals}
 use Rattle.integrals.specs.Gauss.{alongC}
 use Rattle.integrals.specs.declared.integrands.Revolved.{Revolved}
-use Rattle.integrals.specs.declared.integrands.Place.{Place}
+use Rattle.integrals.specs.declared.integrands.PathPoint.{PathPoint}
 use Rattle.integrals.specs.Integrands.{nodeC}
 
-module _ (v : Revolved) (path : Float → Checked Place) where
+module _ (v : Revolved) (path : Float → Checked PathPoint) where
   -- the sums after the node at t, of weight `wgt`, on a stretch of length h
   unfoldable pub nodeAtC : Float → Float → Float → SurfaceIntegrals → Checked SurfaceIntegrals
   nodeAtC h wgt t s = do

@@ -7,13 +7,13 @@ use Rattle.checked.specs.Numbers.{zero, half, one, two, four, six}
 use Rattle.vectors.specs.declared.Vec3.{Vec3}
 use Rattle.vectors.specs.Vectors.{vec, _⊞_, _⊟_, _⊠_, _⊡_}
 use Rattle.rounding.specs.Computations.{sqrtC}
-use Rattle.libm.specs.Circle.{sincosC}
+use Rattle.libm.specs.Sincos.{sincosC}
 use Rattle.cones.specs.declared.Cone.{Cone}
 use Rattle.cones.specs.Frames.{frameC}
 use Rattle.integrals.specs.declared.SurfaceIntegrals.{SurfaceIntegrals}
 use Rattle.integrals.specs.declared.integrands.Revolved.{Revolved}
-use Rattle.integrals.specs.declared.integrands.Bearing.{Bearing}
-use Rattle.integrals.specs.declared.integrands.Place.{Place}
+use Rattle.integrals.specs.declared.integrands.RadialNormal.{RadialNormal}
+use Rattle.integrals.specs.declared.integrands.PathPoint.{PathPoint}
 
 -- what `revolution` works out of its cone before the first path
 unfoldable pub revolvedC : Cone → Vec3 → Checked Revolved
@@ -25,15 +25,15 @@ revolvedC c o = do
 
 -- ---- what is integrated, at the angle θ and s along the axis
 -- the direction away from the axis, and the normal: `rv` and `nv`
-unfoldable pub bearingC : Revolved → Float → Checked Bearing
-bearingC v theta = do
+unfoldable pub radialNormalC : Revolved → Float → Checked RadialNormal
+radialNormalC v theta = do
   s ← sincosC theta
   out ← vec (v .frame .e1) ⊠ num (s .cos) ⊞ vec (v .frame .e2) ⊠ num (s .sin)
   normal ← vec out ⊟ vec (v .frame .axis) ⊠ num (v .slope)
   given (record { out = out; normal = normal })
 
 -- the eight integrands, without the sign of the normal
-unfoldable pub patchC : Revolved → Bearing → Float → Checked SurfaceIntegrals
+unfoldable pub patchC : Revolved → RadialNormal → Float → Checked SurfaceIntegrals
 patchC v b s = do
   r ← num (v .radius) ⊕ num (v .slope) ⊗ num s
   x ← vec (v .p0) ⊞ vec (b .out) ⊠ num r ⊞ vec (v .frame .axis) ⊠ num s
@@ -48,7 +48,7 @@ patchC v b s = do
 
 unfoldable pub integrandC : Revolved → Float → Float → Checked SurfaceIntegrals
 integrandC v theta s = do
-  b ← bearingC v theta
+  b ← radialNormalC v theta
   patchC v b s
 
 -- ---- the step of the sums at a node
@@ -72,11 +72,11 @@ termsC w s a b c = do
   given (record { «six_v» = volume; moment = m; area = area; «area_vector» = n })
 
 -- half the stretch's length, the node's weight, how fast θ turns, z, and Simpson's sixth
-unfoldable pub weightC : Place → Float → Float → Checked Float
+unfoldable pub weightC : PathPoint → Float → Float → Checked Float
 weightC p h wgt = num half ⊗ num h ⊗ num wgt ⊗ num (p .turn) ⊗ num (p .z) ⊘ num six
 
 -- the sums after a node of weight `wgt`, where the path is at p, on a piece of length h
-unfoldable pub nodeC : Revolved → Place → Float → Float → SurfaceIntegrals → Checked SurfaceIntegrals
+unfoldable pub nodeC : Revolved → PathPoint → Float → Float → SurfaceIntegrals → Checked SurfaceIntegrals
 nodeC v p h wgt s = do
   f0 ← integrandC v (p .theta) zero
   middle ← num half ⊗ num (p .z)

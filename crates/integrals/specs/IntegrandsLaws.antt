@@ -14,16 +14,16 @@ use Rattle.vectors.specs.declared.Vec3.{Vec3}
 use Rattle.vectors.specs.Vectors.{isFinite3, nines}
 use Rattle.vectors.specs.Laws.{nines-ok, tells-x, tells-y, tells-z, rules as vectors-rules}
 use Rattle.rounding.specs.Computations.{sqrtC}
-use Rattle.libm.specs.Circle.{sincosC}
+use Rattle.libm.specs.Sincos.{sincosC}
 use Rattle.cones.specs.declared.Cone.{Cone}
 use Rattle.cones.specs.Frames.{frameC}
 use Rattle.integrals.specs.declared.SurfaceIntegrals.{SurfaceIntegrals}
 use Rattle.integrals.specs.Sums.{finiteSurface, surfaceNine}
 use Rattle.integrals.specs.Laws.{Finite, sums-ok, area-first, the-volume, the-moment, the-area, the-vector, sums-of}
 use Rattle.integrals.specs.declared.integrands.Revolved.{Revolved}
-use Rattle.integrals.specs.declared.integrands.Bearing.{Bearing}
-use Rattle.integrals.specs.declared.integrands.Place.{Place}
-use Rattle.integrals.specs.Integrands.{revolvedC, bearingC, patchC, integrandC, termC, term3C, termsC, weightC, nodeC}
+use Rattle.integrals.specs.declared.integrands.RadialNormal.{RadialNormal}
+use Rattle.integrals.specs.declared.integrands.PathPoint.{PathPoint}
+use Rattle.integrals.specs.Integrands.{revolvedC, radialNormalC, patchC, integrandC, termC, term3C, termsC, weightC, nodeC}
 
 ruleset all = (checked-rules, vectors-rules)
 
@@ -31,12 +31,12 @@ pub revolved-refusal : (c : Cone) (o : Vec3) → revolvedC c o .refusal ≡ firs
 unfolding revolvedC
 revolved-refusal c o = simp (sqrtC, rounded, all)
 
-bearing-refusal : (v : Revolved) (theta : Float) → bearingC v theta .refusal ≡ first (sincosC theta .refusal) (nines (bearingC v theta .value .normal))
-unfolding bearingC
+bearing-refusal : (v : Revolved) (theta : Float) → radialNormalC v theta .refusal ≡ first (sincosC theta .refusal) (nines (radialNormalC v theta .value .normal))
+unfolding radialNormalC
 bearing-refusal v theta = simp all
 
 -- ---- a patch
-patch-refusal : (v : Revolved) (b : Bearing) (s : Float) → patchC v b s .refusal ≡ first (nines (patchC v b s .value .moment)) (first (nine (patchC v b s .value .area)) (first (nine (patchC v b s .value .«six_v»)) (first (nine (patchC v b s .value .«area_vector» .x)) (first (nine (patchC v b s .value .«area_vector» .y)) (nine (patchC v b s .value .«area_vector» .z))))))
+patch-refusal : (v : Revolved) (b : RadialNormal) (s : Float) → patchC v b s .refusal ≡ first (nines (patchC v b s .value .moment)) (first (nine (patchC v b s .value .area)) (first (nine (patchC v b s .value .«six_v»)) (first (nine (patchC v b s .value .«area_vector» .x)) (first (nine (patchC v b s .value .«area_vector» .y)) (nine (patchC v b s .value .«area_vector» .z))))))
 unfolding patchC
 patch-refusal v b s = simp all
 
@@ -63,7 +63,7 @@ eight false true false n = refl
 eight false false true n = refl
 eight false false false n = refl
 
-patch-nine : (v : Revolved) (b : Bearing) (s : Float) → patchC v b s .refusal ≡ ok (finiteSurface (patchC v b s .value))
+patch-nine : (v : Revolved) (b : RadialNormal) (s : Float) → patchC v b s .refusal ≡ ok (finiteSurface (patchC v b s .value))
 unfolding finiteSurface
 patch-nine v b s =
     let e = patchC v b s .value in
@@ -118,7 +118,7 @@ terms-parts w s a b c h =
     (v .0, (sums-of a (v .1 .0) (m .1 .0) (t .1 .0) (n .1 .0), (sums-of b (v .1 .1 .0) (m .1 .1 .0) (t .1 .1 .0) (n .1 .1 .0), sums-of c (v .1 .1 .1) (m .1 .1 .1) (t .1 .1 .1) (n .1 .1 .1))))
 
 -- a patch's normal, and its place along the axis
-patch-parts : (v : Revolved) (b : Bearing) (s : Float) → T (finiteSurface (patchC v b s .value)) → T (isFinite3 (b .normal)) × T (isFinite s)
+patch-parts : (v : Revolved) (b : RadialNormal) (s : Float) → T (finiteSurface (patchC v b s .value)) → T (isFinite3 (b .normal)) × T (isFinite s)
 unfolding patchC
 patch-parts v b s h =
     let e = patchC v b s .value in
@@ -129,7 +129,7 @@ patch-parts v b s h =
     )
 
 -- ---- a node
-weight-nine : (p : Place) (h wgt : Float) → weightC p h wgt .refusal ≡ nine (weightC p h wgt .value)
+weight-nine : (p : PathPoint) (h wgt : Float) → weightC p h wgt .refusal ≡ nine (weightC p h wgt .value)
 unfolding weightC
 weight-nine p h wgt = simp all
 
@@ -139,9 +139,9 @@ chain : (s : ℕ) (n p₀ m p₁ p₂ w t : Bool) → (T t → T n) → (T t →
 chain (suc s) n p₀ m p₁ p₂ w t a b c d e f = unfold first in refl
 chain zero n p₀ m p₁ p₂ w t a b c d e f = simp (first-assoc, zero-first, absorb n t a, absorb p₀ t b, absorb m t c, absorb p₁ t d, absorb p₂ t e, absorb w t f)
 
-module _ (v : Revolved) (p : Place) (h wgt : Float) (s : SurfaceIntegrals) where
-  abbrev bearing : Bearing
-  bearing = bearingC v (p .theta) .value
+module _ (v : Revolved) (p : PathPoint) (h wgt : Float) (s : SurfaceIntegrals) where
+  abbrev bearing : RadialNormal
+  bearing = radialNormalC v (p .theta) .value
 
   abbrev middle : Float
   middle = mul binary64 half (p .z)

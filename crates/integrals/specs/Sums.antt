@@ -9,7 +9,7 @@ use Rattle.checked.specs.Numbers.{zero, one}
 use Rattle.vectors.specs.Vectors.{origin, isFinite3}
 use Rattle.integrals.specs.declared.SurfaceIntegrals.{SurfaceIntegrals}
 use Rattle.integrals.specs.declared.Integrals.{Integrals}
-use Rattle.integrals.specs.declared.Outcome.{Outcome}
+use Rattle.integrals.specs.declared.SumsOutcome.{SumsOutcome}
 use Rattle.integrals.specs.declared.Added.{Added}
 use Rattle.integrals.specs.declared.Added.the-variants as added-variants
 
@@ -42,5 +42,5 @@ addedDue (added-variants.Refused n) = refused n
 
 -- ---- calls on lent sums
 -- what is left of them, and the number that the call answers
-abbrev pub outcome : Integrals → Due Integrals → Outcome
+abbrev pub outcome : Integrals → Due Integrals → SumsOutcome
 outcome s d = record { sums = after s d; number = numberOf d }

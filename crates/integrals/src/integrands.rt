@@ -2,8 +2,8 @@
 // be of any size.
 ghost use mathlib.Core.Path.{_≡_};
 ghost use Rattle.checked.specs.Checked.{first};
-ghost use Rattle.libm.specs.Circle.{sincosC};
-ghost use Rattle.integrals.specs.Integrands.{revolvedC, bearingC, patchC, termC, term3C, termsC, nodeC};
+ghost use Rattle.libm.specs.Sincos.{sincosC};
+ghost use Rattle.integrals.specs.Integrands.{revolvedC, radialNormalC, patchC, termC, term3C, termsC, nodeC};
 use crate::CheckedSurfaceIntegrals;
 use crate::SurfaceIntegrals;
 use checked::earlier;
@@ -38,27 +38,27 @@ pub struct CheckedRevolved {
 }
 
 // The direction away from the axis at an angle, and the normal there, not of length 1.
-pub struct Bearing {
+pub struct RadialNormal {
     pub out: Vec3,
     pub normal: Vec3,
 }
 
 // A bearing, with the refusal of its angle; that of its vectors is for the caller to note.
-pub struct CheckedBearing {
-    pub value: Bearing,
+pub struct CheckedRadialNormal {
+    pub value: RadialNormal,
     pub refusal: u8,
 }
 
 // Where a path is: its angle, its place along the axis, and how fast the angle turns.
-pub struct Place {
+pub struct PathPoint {
     pub theta: f64,
     pub z: f64,
     pub turn: f64,
 }
 
 // A place, with the refusal that its computation met first; 0 is none.
-pub struct CheckedPlace {
-    pub value: Place,
+pub struct CheckedPathPoint {
+    pub value: PathPoint,
     pub refusal: u8,
 }
 
@@ -82,15 +82,15 @@ pub fn revolve(c: Cone, o: Vec3) -> CheckedRevolved
     }
 }
 
-fn bearing_at(v: Revolved, theta: f64) -> CheckedBearing
+fn radial_normal_at(v: Revolved, theta: f64) -> CheckedRadialNormal
     ensures refusal { λ r. ⌜ r .refusal ≡ sincosC theta .refusal ⌝ }
-    ensures value { λ r. ⌜ r .value ≡ bearingC v theta .value ⌝ }
+    ensures value { λ r. ⌜ r .value ≡ radialNormalC v theta .value ⌝ }
 {
     let s = sincos(theta);
     let out = plus(times(v.frame.e1, s.cos), times(v.frame.e2, s.sin));
     let normal = minus(out, times(v.frame.axis, v.slope));
-    CheckedBearing {
-        value: Bearing {
+    CheckedRadialNormal {
+        value: RadialNormal {
             out: out,
             normal: normal,
         },
@@ -99,7 +99,7 @@ fn bearing_at(v: Revolved, theta: f64) -> CheckedBearing
 }
 
 // The integrands at s along the axis.
-fn patch(v: Revolved, b: Bearing, s: f64) -> SurfaceIntegrals
+fn patch(v: Revolved, b: RadialNormal, s: f64) -> SurfaceIntegrals
     ensures { λ r. ⌜ r ≡ patchC v b s .value ⌝ }
 {
     let r = v.radius + v.slope * s;
@@ -162,7 +162,7 @@ fn terms(
 // all that they are made of is.
 pub fn node(
     v: Revolved,
-    p: Place,
+    p: PathPoint,
     h: f64,
     wgt: f64,
     s: CheckedSurfaceIntegrals,
@@ -170,7 +170,7 @@ pub fn node(
     ensures refusal { λ r. ⌜ r .refusal ≡ first (s .refusal) (nodeC v p h wgt (s .value) .refusal) ⌝ }
     ensures value { λ r. ⌜ r .value ≡ nodeC v p h wgt (s .value) .value ⌝ }
 {
-    let c = bearing_at(v, p.theta);
+    let c = radial_normal_at(v, p.theta);
     let b = c.value;
     let w = 0.5 * h * wgt * p.turn * p.z / 6.0;
     let before = s.value;

@@ -5,7 +5,7 @@ use lib.Dec.{leb, ltb}
 use lib.Ieee.{Float, neg, isNan}
 use Rattle.checked.specs.Patterns.{high-word}
 use Rattle.checked.specs.Numbers.{one, threeHalves, two, literal}
-use Rattle.float_bits.specs.Words.{_+ᶠ_, _-ᶠ_, _*ᶠ_, _/ᶠ_, if_then_else_, sign, signed, fabs}
+use Rattle.float_bits.specs.FloatBits.{_+ᶠ_, _-ᶠ_, _*ᶠ_, _/ᶠ_, if_then_else_, sign, signed, fabs}
 use Rattle.libm.specs.declared.atan.Reduced.{Reduced}
 
 -- ATANHI and ATANLO: the arctangents of 1/2, 1, 3/2 and infinity, in two parts each

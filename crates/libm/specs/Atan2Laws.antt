@@ -8,10 +8,10 @@ use borrow.Author.Tests.{ne-eqb}
 use lib.Ieee.{Float, binary64, fits, neg, lt, isNan, toBits}
 use Rattle.checked.specs.Patterns.{bits}
 use Rattle.checked.specs.Numbers.{two, pi}
-use Rattle.float_bits.specs.Words.{_/ᶠ_, if_then_else_, sign, choose}
+use Rattle.float_bits.specs.FloatBits.{_/ᶠ_, if_then_else_, sign, choose}
 use Rattle.float_bits.specs.Signs.{nought, noughtOf, above-sign, below-sign, above-no-nan, below-no-nan, above-size, below-size}
 use Rattle.libm.specs.AtanLaws.{atan-nought}
-use Rattle.libm.specs.Arctangent.{atan2, angle, isOne}
+use Rattle.libm.specs.Atan2.{atan2, angle, isOne}
 
 -- ---- y is ±0
 

@@ -5,9 +5,9 @@ use mathlib.Core.Path.{_≡_, refl}
 use mathlib.Core.List.{List, [], _∷_, map}
 use lib.Ieee.{Float, add, sub, mul, div, neg, isNan, toBits, ofBits}
 use Rattle.checked.specs.Numbers.{literal}
-use Rattle.float_bits.specs.Words.{choose, signed, fabs}
+use Rattle.float_bits.specs.FloatBits.{choose, signed, fabs}
 use Rattle.float_bits.specs.Special.{minus, nought, least, one, greatest, infinity, not-a-number, π, π/2, π/4, 3π/4}
-use Rattle.libm.specs.Arctangent.{isOne, ratioAngle, angle, atan2}
+use Rattle.libm.specs.Atan2.{isOne, ratioAngle, angle, atan2}
 use Rattle.libm.specs.Atan.{reduced, atan}
 
 -- the patterns of y, of x and of the angle

@@ -4,7 +4,7 @@ use mathlib.Core.Bool.{Bool, true, false}
 use lib.Ieee.{Float, nan, isNan, toBits}
 use lib.Ieee.Compare.{differs-from-itself}
 use Rattle.checked.specs.PatternLaws.{yes, ne-self}
-use Rattle.float_bits.specs.Words.{fabs}
+use Rattle.float_bits.specs.FloatBits.{fabs}
 use Rattle.float_bits.specs.Signs.{noughtOf}
 use Rattle.libm.specs.Atan.{atan}
 

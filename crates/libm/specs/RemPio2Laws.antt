@@ -7,11 +7,11 @@ use lib.Ieee.{Float, fin, binary64, add, mul, neg, le, lt, eq, fits, ofBits}
 use Rattle.checked.specs.Checked.{isFinite, within}
 use Rattle.checked.specs.Laws.{within-finite}
 use Rattle.checked.specs.Patterns.{high-word}
-use Rattle.float_bits.specs.Words.{fabs, _*ᶠ_}
+use Rattle.float_bits.specs.FloatBits.{fabs, _*ᶠ_}
 use Rattle.float_bounds.specs.Intervals.{In, upto-in, upto-mul, upto-wider, in-add}
 use Rattle.float_bounds.specs.Powers.{pow, within-pow}
 use Rattle.float_bounds.specs.HighWords.{word-most}
-use Rattle.libm.specs.Reduction.{TO-INT, INV-PIO2, tmp}
+use Rattle.libm.specs.RemPio2.{TO-INT, INV-PIO2, tmp}
 
 -- 1.5 * 2 ^ 52, and at most 2 ^ 20 more or less
 pub tmp-range : (x : Float) → T (within x) → In (fin false 6442450943 (pos 20)) (fin false 6442450945 (pos 20)) (tmp x)

@@ -3,9 +3,9 @@
 use lib.Dec.{leb, ltb, eqb}
 use lib.Ieee.{Float}
 use Rattle.checked.specs.Patterns.{high-word}
-use Rattle.float_bits.specs.Words.{if_then_else_, size, sign}
-use Rattle.libm.specs.Arccosine.{acosFar, acosNear, acosBelow, acosAbove}
-use Rattle.libm.specs.Hypotenuse.{greater, lesser, hypotOrdered}
+use Rattle.float_bits.specs.FloatBits.{if_then_else_, size, sign}
+use Rattle.libm.specs.Acos.{acosFar, acosNear, acosBelow, acosAbove}
+use Rattle.libm.specs.Hypot.{greater, lesser, hypotOrdered}
 
 -- the angle whose cosine is x
 unfoldable pub acos : Float → Float

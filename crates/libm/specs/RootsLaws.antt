@@ -14,10 +14,10 @@ use Rattle.checked.specs.Laws.{tells, one, two, alone}
 use Rattle.checked.specs.Patterns.{bits}
 use Rattle.checked.specs.PatternLaws.{nan-pattern}
 use Rattle.checked.specs.Numbers.{literal}
-use Rattle.float_bits.specs.Words.{size}
+use Rattle.float_bits.specs.FloatBits.{size}
 use Rattle.float_bits.specs.Signs.{finite-exponent}
-use Rattle.libm.specs.Arccosine.{acosFar}
-use Rattle.libm.specs.Hypotenuse.{greater, lesser, hypotOrdered}
+use Rattle.libm.specs.Acos.{acosFar}
+use Rattle.libm.specs.Hypot.{greater, lesser, hypotOrdered}
 use Rattle.libm.specs.Roots.{acos, hypot}
 use Rattle.libm.specs.Computations.{acosC, hypotC}
 

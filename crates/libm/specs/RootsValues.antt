@@ -7,8 +7,8 @@ use lib.Ieee.{add, sub, mul, div, neg, toBits, ofBits}
 use Rattle.checked.specs.Numbers.{literal}
 use Rattle.rounding.specs.Root as Root
 use Rattle.float_bits.specs.Special.{minus, nought, least, one, greatest, infinity, not-a-number, π, π/2}
-use Rattle.libm.specs.Arccosine.{acosFar, acosNear}
-use Rattle.libm.specs.Hypotenuse.{greater, lesser, hypotOrdered}
+use Rattle.libm.specs.Acos.{acosFar, acosNear}
+use Rattle.libm.specs.Hypot.{greater, lesser, hypotOrdered}
 use Rattle.libm.specs.Roots.{acos, hypot}
 
 -- ---- acos

@@ -10,7 +10,7 @@ use Rattle.checked.specs.PatternLaws.{yes}
 use Rattle.checked.specs.Laws.{within-finite}
 use Rattle.checked.specs.Numbers.{one}
 use Rattle.float_bits.specs.Signs.{noughtOf}
-use Rattle.libm.specs.Circle.{sine, sines, sineOrZero, sinesOrZeros, sinC, sincosC}
+use Rattle.libm.specs.Sincos.{sine, sines, sineOrZero, sinesOrZeros, sinC, sincosC}
 
 finite-is : (b : Bool) → T b → b ≡ true
 finite-is true h = refl

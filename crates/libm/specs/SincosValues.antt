@@ -8,11 +8,11 @@ use lib.Ieee.{Float, add, sub, mul, neg, le, toSigned, toBits, ofBits}
 use Rattle.checked.specs.Refusals.{ANGLE-TOO-LARGE, NOT-FINITE}
 use Rattle.checked.specs.Checked.{Checked, first, isFinite, nine, eight, within}
 use Rattle.checked.specs.Numbers.{literal}
-use Rattle.float_bits.specs.Words.{choose}
+use Rattle.float_bits.specs.FloatBits.{choose}
 use Rattle.float_bits.specs.Special.{minus, nought, least, one, greatest, infinity, not-a-number}
 use Rattle.libm.specs.declared.sincos.Sines.{Sines}
-use Rattle.libm.specs.Reduction.{secondRound, medium, toFive, toNine, remPio2}
-use Rattle.libm.specs.Circle.{turnedSine, sine, turnedSines, sines, sineOrZero, sinesOrZeros, sinC, sincosC}
+use Rattle.libm.specs.RemPio2.{secondRound, medium, toFive, toNine, remPio2}
+use Rattle.libm.specs.Sincos.{turnedSine, sine, turnedSines, sines, sineOrZero, sinesOrZeros, sinC, sincosC}
 
 -- 1,048,576, and the next number up
 abbrev limit : ℕ

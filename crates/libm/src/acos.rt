@@ -1,7 +1,7 @@
 // The arccosine of libm 0.2.1 by the size of its argument: specs/Arccosine.antt has each case
 // operation by operation.
 ghost use mathlib.Core.Path.{_≡_};
-ghost use Rattle.libm.specs.Arccosine as Arccosine;
+ghost use Rattle.libm.specs.Acos as Arccosine;
 use checked::upper;
 use float_bits::sign;
 use float_bits::size;

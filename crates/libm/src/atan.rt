@@ -3,7 +3,7 @@ ghost use mathlib.Core.Path.{_≡_};
 ghost use mathlib.Core.Bool.{not};
 ghost use lib.Dec.{T};
 ghost use lib.Ieee as Ieee;
-ghost use Rattle.float_bits.specs.Words as W;
+ghost use Rattle.float_bits.specs.FloatBits as W;
 ghost use Rattle.libm.specs.Atan as Atan;
 use checked::high_word;
 use float_bits::is_nan;

@@ -1,7 +1,7 @@
 // The angle of a point, atan2 of libm 0.2.1: specs/Arctangent.antt has it operation by operation.
 ghost use mathlib.Core.Path.{_≡_};
 ghost use Prim.Native.Nat.{_<_};
-ghost use Rattle.libm.specs.Arctangent as Arctangent;
+ghost use Rattle.libm.specs.Atan2 as Arctangent;
 use crate::atan::atan;
 use crate::atan::atan_size;
 use checked::PI;

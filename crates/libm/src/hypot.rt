@@ -1,7 +1,7 @@
 // The hypotenuse of libm 0.2.1, by the patterns of the two sides: specs/Hypotenuse.antt has it
 // operation by operation.
 ghost use mathlib.Core.Path.{_≡_};
-ghost use Rattle.libm.specs.Hypotenuse as Hypotenuse;
+ghost use Rattle.libm.specs.Hypot as Hypotenuse;
 use checked::of_bits;
 use rounding::sqrt;
 

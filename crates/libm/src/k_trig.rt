@@ -1,7 +1,7 @@
 // Sine and cosine near 0, as k_sin and k_cos of libm 0.2.1 have them: specs/Kernels.antt has them
 // operation by operation.
 ghost use mathlib.Core.Path.{_≡_};
-ghost use Rattle.libm.specs.Kernels as Kernels;
+ghost use Rattle.libm.specs.KTrig as Kernels;
 
 const S1: f64 = -1.66666666666666324348e-01;
 

@@ -4,7 +4,7 @@ ghost use mathlib.Core.Path.{_≡_};
 ghost use lib.Dec.{T};
 ghost use lib.IntN.{pos, negsuc};
 ghost use Rattle.checked.specs.Checked.{within};
-ghost use Rattle.libm.specs.Reduction as Reduction;
+ghost use Rattle.libm.specs.RemPio2 as Reduction;
 use checked::high_word;
 use float_bits::exponent;
 use float_bits::sign;

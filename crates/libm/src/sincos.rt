@@ -3,7 +3,7 @@
 ghost use mathlib.Core.Path.{_≡_};
 ghost use lib.Dec.{T};
 ghost use Rattle.checked.specs.Checked.{first, nine, eight, within};
-ghost use Rattle.libm.specs.Circle as Circle;
+ghost use Rattle.libm.specs.Sincos as Circle;
 use crate::k_trig::k_cos;
 use crate::k_trig::k_sin;
 use crate::k_trig::k_sin0;

@@ -13,11 +13,11 @@ use Rattle.checked.specs.Checked.{isFinite}
 use Rattle.checked.specs.Numbers.{literal, zero, half, one, two}
 use Rattle.checked.specs.Patterns.{bits, high-word, upper}
 use Rattle.order.specs.Order.{le-trans-of, lt-not-le}
-use Rattle.float_bits.specs.Words.{fabs, sign, size, _+ᶠ_, _-ᶠ_, _*ᶠ_, _/ᶠ_}
+use Rattle.float_bits.specs.FloatBits.{fabs, sign, size, _+ᶠ_, _-ᶠ_, _*ᶠ_, _/ᶠ_}
 use Rattle.float_bits.specs.Laws.{fabs-bits}
 use Rattle.float_bits.specs.Signs.{above-sign}
 use Rattle.rounding.specs.Root as Root
-use Rattle.libm.specs.Arccosine.{PIO2-HI, PIO2-LO, PS0, PS1, PS2, PS3, PS4, PS5, QS1, QS2, QS3, QS4, tiny, sqrt, ratio, atOne, acosFar, acosNear, acosAbove, acosBelow}
+use Rattle.libm.specs.Acos.{PIO2-HI, PIO2-LO, PS0, PS1, PS2, PS3, PS4, PS5, QS1, QS2, QS3, QS4, tiny, sqrt, ratio, atOne, acosFar, acosNear, acosAbove, acosBelow}
 use Rattle.libm.specs.Roots.{acos}
 use Rattle.float_bounds.specs.Parts.{nought, add-le}
 use Rattle.float_bounds.specs.Intervals.{In, Upto, plain, positive, upto-in, in-upto, upto-wider, upto-add, upto-mul, upto-div, in-add, in-sub, in-scaled, in-finite, le-fabs, finite-number, plain-finite, plain-fabs}

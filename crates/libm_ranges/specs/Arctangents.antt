@@ -12,7 +12,7 @@ use Rattle.checked.specs.Checked.{isFinite}
 use Rattle.checked.specs.Patterns.{high-word}
 use Rattle.order.specs.Order.{le-trans-of, le-refl-of}
 use Rattle.checked.specs.Numbers.{literal, one, two, threeHalves}
-use Rattle.float_bits.specs.Words.{fabs, sign, signed, _+ᶠ_, _-ᶠ_, _*ᶠ_, _/ᶠ_}
+use Rattle.float_bits.specs.FloatBits.{fabs, sign, signed, _+ᶠ_, _-ᶠ_, _*ᶠ_, _/ᶠ_}
 use Rattle.libm.specs.declared.atan.Reduced.{Reduced}
 use Rattle.libm.specs.Atan.{ATANHI3, AT0, AT1, AT2, AT3, AT4, AT5, AT6, AT7, AT8, AT9, AT10, atan, atanHuge, atanSmall, atHalf, atOne, atThreeHalves, atInfinity, reduced, series, folded}
 use Rattle.float_bits.specs.Laws.{signed-fabs}

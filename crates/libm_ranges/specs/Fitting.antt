@@ -8,10 +8,10 @@ use lib.Ieee.Fits.{cond-fits, neg-fits, add-fits, sub-fits, div-fits}
 use lib.Ieee.Bits.{ofBits-fits}
 use Rattle.checked.specs.Numbers.{literal, zero, two, three, four, pi}
 use Rattle.checked.specs.Patterns.{high-word}
-use Rattle.float_bits.specs.Words.{size, sign, signed, choose, fabs, _+ᶠ_, _-ᶠ_, _*ᶠ_, _/ᶠ_}
+use Rattle.float_bits.specs.FloatBits.{size, sign, signed, choose, fabs, _+ᶠ_, _-ᶠ_, _*ᶠ_, _/ᶠ_}
 use Rattle.float_bits.specs.Laws.{fabs-fits}
 use Rattle.libm.specs.Atan.{ATANHI3, atan, atanHuge, atanSmall, series, folded, reduced}
-use Rattle.libm.specs.Arctangent.{PI-LO, atan2, angle, isOne, atZeroY, quarterTurn, bothInfinite, infiniteX, atInfiniteX, tooFlat, tooSteep, ratioAngle, inQuadrant}
+use Rattle.libm.specs.Atan2.{PI-LO, atan2, angle, isOne, atZeroY, quarterTurn, bothInfinite, infiniteX, atInfiniteX, tooFlat, tooSteep, ratioAngle, inQuadrant}
 
 abbrev Fits : Float → Type 0
 Fits x = T (fits binary64 x)

@@ -14,11 +14,11 @@ use Rattle.checked.specs.Checked.{isFinite}
 use Rattle.checked.specs.Patterns.{high-word}
 use Rattle.order.specs.Order.{le-numbers}
 use Rattle.checked.specs.Numbers.{literal, zero, two, three, four, pi}
-use Rattle.float_bits.specs.Words.{fabs, sign, size, choose, _+ᶠ_, _-ᶠ_, _*ᶠ_, _/ᶠ_}
+use Rattle.float_bits.specs.FloatBits.{fabs, sign, size, choose, _+ᶠ_, _-ᶠ_, _*ᶠ_, _/ᶠ_}
 use Rattle.float_bits.specs.Laws.{fabs-bits, fabs-fits, fabs-twice}
 use Rattle.rounding.specs.Values.{zero-exponent}
 use Rattle.libm.specs.Atan.{atan}
-use Rattle.libm.specs.Arctangent.{atan2, angle, isOne, PI-LO, atZeroY, quarterTurn, bothInfinite, infiniteX, atInfiniteX, tooFlat, tooSteep, ratioAngle, inQuadrant}
+use Rattle.libm.specs.Atan2.{atan2, angle, isOne, PI-LO, atZeroY, quarterTurn, bothInfinite, infiniteX, atInfiniteX, tooFlat, tooSteep, ratioAngle, inQuadrant}
 use Rattle.float_bounds.specs.Parts.{nought, plus, minus, above, under, den, den-pos, positive-round}
 use Rattle.float_bounds.specs.Intervals.{In, Upto, upto-in, in-sub, in-neg, in-wider, in-finite, div-is, finite-number}
 use Rattle.libm_ranges.specs.Arctangents.{three as bound, atan-turned, Turned}

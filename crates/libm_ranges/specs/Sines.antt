@@ -9,13 +9,13 @@ use lib.Ieee.{Float, fin, binary64, sub, mul, neg, le, lt, eq, ofBits}
 use Rattle.checked.specs.Checked.{isFinite, within}
 use Rattle.checked.specs.Patterns.{high-word}
 use Rattle.checked.specs.Numbers.{zero, one, half, two, three, four}
-use Rattle.float_bits.specs.Words.{fabs, sign, exponent, choose, _+ᶠ_, _-ᶠ_, _*ᶠ_}
+use Rattle.float_bits.specs.FloatBits.{fabs, sign, exponent, choose, _+ᶠ_, _-ᶠ_, _*ᶠ_}
 use Rattle.libm.specs.declared.rem_pio2.Rest.{Rest}
 use Rattle.libm.specs.declared.sincos.Sines.{Sines}
-use Rattle.libm.specs.Kernels.{S1, S2, S3, S4, S5, S6, C1, C2, C3, C4, C5, C6, sineSeries, kSin0, kSin, kCos}
-use Rattle.libm.specs.Reduction.{TO-INT, PIO2-1, PIO2-1T, PIO2-2, PIO2-2T, PIO2-3, PIO2-3T, quarter, parted, tmp, f-n, turns, thirdRound, secondRound, medium, takenOff, added, oneRound, toFive, toSeven, fromSeven, toNine, remPio2}
+use Rattle.libm.specs.KTrig.{S1, S2, S3, S4, S5, S6, C1, C2, C3, C4, C5, C6, sineSeries, kSin0, kSin, kCos}
+use Rattle.libm.specs.RemPio2.{TO-INT, PIO2-1, PIO2-1T, PIO2-2, PIO2-2T, PIO2-3, PIO2-3T, quarter, parted, tmp, f-n, turns, thirdRound, secondRound, medium, takenOff, added, oneRound, toFive, toSeven, fromSeven, toNine, remPio2}
 use Rattle.libm.specs.RemPio2Laws.{tmp-range}
-use Rattle.libm.specs.Circle.{turnedSines, sines}
+use Rattle.libm.specs.Sincos.{turnedSines, sines}
 use Rattle.float_bounds.specs.Intervals.{Upto, in-upto, in-sub, upto-mul}
 use Rattle.float_bounds.specs.Powers.{pow, pow-wider, pow-mul, pow-add-of, pow-sub, pow-neg, within-pow}
 

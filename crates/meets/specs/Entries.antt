@@ -11,7 +11,7 @@ use Rattle.meets.specs.declared.Turn.the-variants as turn
 use Rattle.meets.specs.declared.Meet.{Meet}
 use Rattle.meets.specs.declared.MeetPoint.{MeetPoint}
 use Rattle.meets.specs.declared.MeetPoint.the-variants as meet-point
-use Rattle.meets.specs.Meets.{jetC}
+use Rattle.meets.specs.Meets.{derivativesC}
 
 -- what the code's answer says
 abbrev pub pointsDue : MeetPoint → Due Jet
@@ -28,4 +28,4 @@ meetWithin m = within3 (m .origin) && (within3 (m .axis) && (within (m .radius) 
 
 -- `Meet::point`
 unfoldable pub pointDue : Meet → Float → Float → Due Jet
-pointDue m phi n = passing (fails OUT-OF-RANGE (meetWithin m && (within phi && within n)) or neutralTest n) (answered (jetC m phi n))
+pointDue m phi n = passing (fails OUT-OF-RANGE (meetWithin m && (within phi && within n)) or neutralTest n) (answered (derivativesC m phi n))

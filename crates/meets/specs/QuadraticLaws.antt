@@ -4,7 +4,7 @@ use mathlib.Core.Bool.{Bool, true, false}
 use lib.Ieee.{Float, binary64, sub, mul, div, le}
 use Rattle.checked.specs.Checked.{Checked, first, nine}
 use Rattle.checked.specs.Laws.{rules as checked-rules}
-use Rattle.libm.specs.Circle.{sincosC}
+use Rattle.libm.specs.Sincos.{sincosC}
 use Rattle.directions.specs.Directions.{overLengthC}
 use Rattle.directions.specs.Laws.{over-length-refusal, rules as directions-rules}
 use Rattle.vectors.specs.declared.Vec3.{Vec3}
@@ -12,7 +12,7 @@ use Rattle.vectors.specs.Vectors.{along-z, nines, crossC, dotC}
 use Rattle.vectors.specs.Laws.{rules as vectors-rules}
 use Rattle.meets.specs.declared.quadratic.Pipe.{Pipe}
 use Rattle.meets.specs.declared.quadratic.Quadratic.{Quadratic}
-use Rattle.meets.specs.Pipes.{ownC, otherC, quadraticC, lesserC, reachC}
+use Rattle.meets.specs.Quadratic.{ownC, otherC, quadraticC, lesserC, intersectionC}
 
 ruleset all = (checked-rules, vectors-rules, directions-rules)
 
@@ -27,9 +27,9 @@ other-refusal o axis radius own = simp (over-length-refusal, all)
 -- a finite root tells that all before it is finite, the angle's sine apart
 abbrev pub quadratic : Pipe → Float → Quadratic
 quadratic p phi =
-    let h = reachC p phi .value in
+    let h = intersectionC p phi .value in
     quadraticC (h .w) (h .af) (p .mr) .value
 
-pub reach-refusal : (p : Pipe) (phi : Float) → reachC p phi .refusal ≡ first (sincosC phi .refusal) (first (nine (reachC p phi .value .root)) (lesserC (quadratic p phi) .refusal))
-unfolding reachC
+pub reach-refusal : (p : Pipe) (phi : Float) → intersectionC p phi .refusal ≡ first (sincosC phi .refusal) (first (nine (intersectionC p phi .value .root)) (lesserC (quadratic p phi) .refusal))
+unfolding intersectionC
 reach-refusal p phi = simp all

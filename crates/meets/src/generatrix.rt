@@ -1,14 +1,14 @@
 // The point where a generatrix meets the cylinder, and its derivatives in the angle, on numbers of any size. A call works out what its caller
 // reads, and no more; the pipe is worked out once and handed on.
 ghost use mathlib.Core.Path.{_≡_};
-ghost use Rattle.meets.specs.Pipes.{reachC};
-ghost use Rattle.meets.specs.Reaches.{aheadC, speedC, bendC, heightC, jetC};
-use crate::quadratic::CheckedReached;
+ghost use Rattle.meets.specs.Quadratic.{intersectionC};
+ghost use Rattle.meets.specs.Generatrix.{alongGeneratrixC, firstDerivativesC, secondDerivativesC, heightC, derivativesC};
+use crate::quadratic::CheckedIntersection;
+use crate::quadratic::Intersection;
 use crate::quadratic::Pipe;
 use crate::quadratic::Quadratic;
-use crate::quadratic::Reached;
+use crate::quadratic::intersect;
 use crate::quadratic::lesser;
-use crate::quadratic::reach;
 use checked::CheckedNumber;
 use checked::earlier;
 use checked::note;
@@ -23,26 +23,26 @@ use vectors::formula::plus;
 use vectors::formula::times;
 
 // The first derivatives: of the point of the pipe, of that across the axis of the cylinder met, of b, and of t.
-pub struct Speed {
+pub struct FirstDerivatives {
     pub d1: Vec3,
     pub w1: Vec3,
     pub b1: f64,
     pub t1: f64,
 }
 
-pub struct CheckedSpeed {
-    pub value: Speed,
+pub struct CheckedFirstDerivatives {
+    pub value: FirstDerivatives,
     pub refusal: u8,
 }
 
 // The second derivatives, of the point of the pipe and of t.
-pub struct Bend {
+pub struct SecondDerivatives {
     pub d2: Vec3,
     pub t2: f64,
 }
 
-pub struct CheckedBend {
-    pub value: Bend,
+pub struct CheckedSecondDerivatives {
+    pub value: SecondDerivatives,
     pub refusal: u8,
 }
 
@@ -59,23 +59,23 @@ pub struct CheckedJet {
 }
 
 fn ahead(p: Vec3, a: Vec3, t: f64) -> Vec3
-    ensures { λ r. ⌜ r ≡ aheadC p a t .value ⌝ }
+    ensures { λ r. ⌜ r ≡ alongGeneratrixC p a t .value ⌝ }
 {
     plus(p, times(a, t))
 }
 
-pub fn speed_at(p: Pipe, h: Reached) -> CheckedSpeed
-    ensures refusal { λ r. ⌜ r .refusal ≡ speedC p h .refusal ⌝ }
-    ensures value { λ r. ⌜ r .value ≡ speedC p h .value ⌝ }
+pub fn speed_at(p: Pipe, h: Intersection) -> CheckedFirstDerivatives
+    ensures refusal { λ r. ⌜ r .refusal ≡ firstDerivativesC p h .refusal ⌝ }
+    ensures value { λ r. ⌜ r .value ≡ firstDerivativesC p h .value ⌝ }
 {
     let d1 = times(minus(times(p.e2, h.c), times(p.e1, h.s)), p.r);
     let w1 = across(p.ma, d1);
     let b1 = dot(w1, h.af);
     let c1 = 2.0 * dot(h.w, w1);
     let t1 = (b1 * h.t + 0.5 * c1) / h.root;
-    CheckedSpeed {
+    CheckedFirstDerivatives {
         refusal: note(0, t1),
-        value: Speed {
+        value: FirstDerivatives {
             d1: d1,
             w1: w1,
             b1: b1,
@@ -84,18 +84,18 @@ pub fn speed_at(p: Pipe, h: Reached) -> CheckedSpeed
     }
 }
 
-pub fn bend_at(p: Pipe, h: Reached, v: Speed) -> CheckedBend
-    ensures refusal { λ r. ⌜ r .refusal ≡ bendC p h v .refusal ⌝ }
-    ensures value { λ r. ⌜ r .value ≡ bendC p h v .value ⌝ }
+pub fn bend_at(p: Pipe, h: Intersection, v: FirstDerivatives) -> CheckedSecondDerivatives
+    ensures refusal { λ r. ⌜ r .refusal ≡ secondDerivativesC p h v .refusal ⌝ }
+    ensures value { λ r. ⌜ r .value ≡ secondDerivativesC p h v .value ⌝ }
 {
     let d2 = times(h.around, -p.r);
     let w2 = across(p.ma, d2);
     let b2 = dot(w2, h.af);
     let c2 = 2.0 * (dot(v.w1, v.w1) + dot(h.w, w2));
     let t2 = (b2 * h.t + 2.0 * v.b1 * v.t1 + h.aa * v.t1 * v.t1 + 0.5 * c2) / h.root;
-    CheckedBend {
+    CheckedSecondDerivatives {
         refusal: note(0, t2),
-        value: Bend { d2: d2, t2: t2 },
+        value: SecondDerivatives { d2: d2, t2: t2 },
     }
 }
 
@@ -104,7 +104,7 @@ pub fn height(p: Pipe, phi: f64) -> CheckedNumber
     ensures refusal { λ r. ⌜ r .refusal ≡ heightC p phi .refusal ⌝ }
     ensures value { λ r. ⌜ r .value ≡ heightC p phi .value ⌝ }
 {
-    let x = reach(p, phi);
+    let x = intersect(p, phi);
     let z = x.value.p0.z + p.a.z * x.value.t;
     CheckedNumber {
         refusal: note(x.refusal, z),
@@ -113,9 +113,9 @@ pub fn height(p: Pipe, phi: f64) -> CheckedNumber
 }
 
 // `quadratic::reach` once more, for `jet_at` alone: a function with one call site is inlined, which is a quarter of the time of `Meet::point`.
-fn reach_here(p: Pipe, phi: f64) -> CheckedReached
-    ensures refusal { λ r. ⌜ r .refusal ≡ reachC p phi .refusal ⌝ }
-    ensures value { λ r. ⌜ r .value ≡ reachC p phi .value ⌝ }
+fn reach_here(p: Pipe, phi: f64) -> CheckedIntersection
+    ensures refusal { λ r. ⌜ r .refusal ≡ intersectionC p phi .refusal ⌝ }
+    ensures value { λ r. ⌜ r .value ≡ intersectionC p phi .value ⌝ }
 {
     let x = sincos(phi);
     let around = plus(times(p.e1, x.cos), times(p.e2, x.sin));
@@ -132,9 +132,9 @@ fn reach_here(p: Pipe, phi: f64) -> CheckedReached
         cc: cc,
         root: root,
     });
-    CheckedReached {
+    CheckedIntersection {
         refusal: earlier(note(x.refusal, root), t.refusal),
-        value: Reached {
+        value: Intersection {
             s: x.sin,
             c: x.cos,
             around: around,
@@ -150,8 +150,8 @@ fn reach_here(p: Pipe, phi: f64) -> CheckedReached
 
 // All three.
 pub fn jet_at(p: Pipe, phi: f64) -> CheckedJet
-    ensures refusal { λ r. ⌜ r .refusal ≡ jetC p phi .refusal ⌝ }
-    ensures value { λ r. ⌜ r .value ≡ jetC p phi .value ⌝ }
+    ensures refusal { λ r. ⌜ r .refusal ≡ derivativesC p phi .refusal ⌝ }
+    ensures value { λ r. ⌜ r .value ≡ derivativesC p phi .value ⌝ }
 {
     let x = reach_here(p, phi);
     let h = x.value;

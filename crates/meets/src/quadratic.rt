@@ -1,6 +1,6 @@
 // A pipe's generatrices and the cylinder that they meet, on numbers of any size: how far along a generatrix the cylinder is reached.
 ghost use mathlib.Core.Path.{_≡_};
-ghost use Rattle.meets.specs.Pipes.{ownC, otherC, lesserC, reachC};
+ghost use Rattle.meets.specs.Quadratic.{ownC, otherC, lesserC, intersectionC};
 use checked::CheckedNumber;
 use checked::earlier;
 use checked::note;
@@ -44,7 +44,7 @@ pub struct Quadratic {
 
 // The generatrix at an angle: the angle's sine and cosine, the direction from the axis, the point of the pipe there; from the axis of the
 // cylinder met to that point, and the pipe's axis, both across; the quadratic's first factor and root, and where it is solved.
-pub struct Reached {
+pub struct Intersection {
     pub s: f64,
     pub c: f64,
     pub around: Vec3,
@@ -56,8 +56,8 @@ pub struct Reached {
     pub t: f64,
 }
 
-pub struct CheckedReached {
-    pub value: Reached,
+pub struct CheckedIntersection {
+    pub value: Intersection,
     pub refusal: u8,
 }
 
@@ -127,9 +127,9 @@ pub fn lesser(q: Quadratic) -> CheckedNumber
 }
 
 // The generatrix at the angle phi, up to the cylinder met.
-pub fn reach(p: Pipe, phi: f64) -> CheckedReached
-    ensures refusal { λ r. ⌜ r .refusal ≡ reachC p phi .refusal ⌝ }
-    ensures value { λ r. ⌜ r .value ≡ reachC p phi .value ⌝ }
+pub fn intersect(p: Pipe, phi: f64) -> CheckedIntersection
+    ensures refusal { λ r. ⌜ r .refusal ≡ intersectionC p phi .refusal ⌝ }
+    ensures value { λ r. ⌜ r .value ≡ intersectionC p phi .value ⌝ }
 {
     let x = sincos(phi);
     let around = plus(times(p.e1, x.cos), times(p.e2, x.sin));
@@ -146,9 +146,9 @@ pub fn reach(p: Pipe, phi: f64) -> CheckedReached
         cc: cc,
         root: root,
     });
-    CheckedReached {
+    CheckedIntersection {
         refusal: earlier(note(x.refusal, root), t.refusal),
-        value: Reached {
+        value: Intersection {
             s: x.sin,
             c: x.cos,
             around: around,

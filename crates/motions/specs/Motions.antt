@@ -6,7 +6,7 @@ use Rattle.checked.specs.Refusals.{OUT-OF-RANGE}
 use Rattle.checked.specs.Checked.{Checked, first, _>>=_, given, num, _⊕_, _⊖_, _⊗_, within, Due, due, refused, answered}
 use Rattle.checked.specs.Tests.{fails, passing}
 use Rattle.checked.specs.Numbers.{one}
-use Rattle.libm.specs.Circle.{sincosC}
+use Rattle.libm.specs.Sincos.{sincosC}
 use Rattle.directions.specs.Directions.{overLengthC}
 use Rattle.vectors.specs.declared.Vec3.{Vec3}
 use Rattle.vectors.specs.Vectors.{origin, space, within3, nines, vec, _⊞_, _⊡_}

@@ -6,12 +6,12 @@ use Rattle.vectors.specs.declared.Vec2.{Vec2}
 use Rattle.vectors.specs.Vectors.{plane}
 use Rattle.profile_arcs.specs.declared.ProfileArc.{ProfileArc}
 use Rattle.waves.specs.declared.Wave.{Wave}
-use Rattle.waves.specs.Ranges.{rangeC}
+use Rattle.waves.specs.TurningPoints.{rangeC}
 use Rattle.piece_boxes.specs.declared.brackets.FlatBox.{FlatBox}
 use Rattle.piece_boxes.specs.MeetBoxes as meets
-use Rattle.piece_curves.specs.declared.Way.{Way}
-use Rattle.piece_curves.specs.declared.Way.the-variants as way
-use Rattle.piece_curves.specs.declared.Run.{Run}
+use Rattle.piece_curves.specs.declared.CurveKind.{CurveKind}
+use Rattle.piece_curves.specs.declared.CurveKind.the-variants as way
+use Rattle.piece_curves.specs.declared.PieceCurve.{PieceCurve}
 use Rattle.piece_lengths.specs.Measures.{distanceC}
 
 -- of the two ends
@@ -38,12 +38,12 @@ waveC w f g n = do
   given (record { low = plane (least (f .x) (g .x)) (v .low); high = plane (greatest (f .x) (g .x)) (v .high) })
 
 -- of a piece, where its way is known
-abbrev pub boxBy : Way → Run → Checked FlatBox
+abbrev pub boxBy : CurveKind → PieceCurve → Checked FlatBox
 boxBy way.Straight r = given (ends (r .from) (r .to))
 boxBy (way.Arc a) r = arcC a (r .from) (r .to)
 boxBy (way.Wave w) r = waveC w (r .from) (r .to) (r .neutral)
 boxBy (way.Meet c) r = meets.boxC c
 
 -- `Rolled::uv_box`
-unfoldable pub boxC : Run → Checked FlatBox
+unfoldable pub boxC : PieceCurve → Checked FlatBox
 boxC r = boxBy (r .way) r

@@ -7,10 +7,10 @@ use Rattle.checked.specs.Checked.{Checked, first, _>>=_, given}
 use Rattle.vectors.specs.declared.Vec2.{Vec2}
 use Rattle.vectors.specs.Vectors.{plane}
 use Rattle.checked.specs.Loops.{foldC}
-use Rattle.piece_curves.specs.declared.meet_curves.Course.{Course}
-use Rattle.piece_curves.specs.Courses.{slopeUC, slopeVC, pointC}
+use Rattle.piece_curves.specs.declared.meet_curves.MeetCurve.{MeetCurve}
+use Rattle.piece_curves.specs.MeetCurves.{slopeUC, slopeVC, pointC}
 use Rattle.piece_boxes.specs.declared.brackets.FlatBox.{FlatBox}
-use Rattle.piece_boxes.specs.Windows.{placeC, widened, windowC}
+use Rattle.piece_boxes.specs.Brackets.{placeC, widened, bracketC}
 
 -- the samples, and the windows between them
 abbrev pub SAMPLES : ℕ
@@ -20,7 +20,7 @@ abbrev pub WINDOWS : ℕ
 WINDOWS = 64
 
 -- the derivatives at place k
-unfoldable pub sampleC : Course → ℕ → Checked Vec2
+unfoldable pub sampleC : MeetCurve → ℕ → Checked Vec2
 sampleC c k = do
   t ← placeC k
   x ← slopeUC c t
@@ -32,7 +32,7 @@ unfoldable pub isEnd : ℕ → Bool
 isEnd k = eqb k 0 || eqb k WINDOWS
 
 -- there the point is read too
-unfoldable pub endC : Course → ℕ → FlatBox → Checked FlatBox
+unfoldable pub endC : MeetCurve → ℕ → FlatBox → Checked FlatBox
 endC c k b =
     cond
     (isEnd k)
@@ -43,7 +43,7 @@ endC c k b =
     (given b)
 
 -- the place k: its derivatives, and the point where it is an end
-unfoldable pub stepC : Course → ℕ → FlatBox → Checked FlatBox
+unfoldable pub stepC : MeetCurve → ℕ → FlatBox → Checked FlatBox
 stepC c k b = do
   d ← sampleC c k
   endC c k b
@@ -53,17 +53,17 @@ abbrev pub empty : FlatBox
 empty = record { low = plane (inf false) (inf false); high = plane (inf true) (inf true) }
 
 -- all samples, and the box of the two ends
-unfoldable pub startC : Course → Checked FlatBox
+unfoldable pub startC : MeetCurve → Checked FlatBox
 startC c = foldC SAMPLES (stepC c) empty
 
 -- between the places k and k + 1: where u turns, then where v does
-unfoldable pub spanC : Course → ℕ → FlatBox → Checked FlatBox
+unfoldable pub spanC : MeetCurve → ℕ → FlatBox → Checked FlatBox
 spanC c k b = do
-  a ← windowC c false k (sampleC c k .value .x) (sampleC c (k + 1) .value .x) b
-  windowC c true k (sampleC c k .value .y) (sampleC c (k + 1) .value .y) a
+  a ← bracketC c false k (sampleC c k .value .x) (sampleC c (k + 1) .value .x) b
+  bracketC c true k (sampleC c k .value .y) (sampleC c (k + 1) .value .y) a
 
 -- a refusal of a sample comes before any of a halving
-unfoldable pub boxC : Course → Checked FlatBox
+unfoldable pub boxC : MeetCurve → Checked FlatBox
 boxC c = do
   b ← startC c
   foldC WINDOWS (spanC c) b

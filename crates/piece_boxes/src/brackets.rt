@@ -4,27 +4,27 @@ ghost use mathlib.Core.Path.{_≡_};
 ghost use mathlib.Core.Bool.{cond};
 ghost use Prim.Native.Nat.{_<_};
 ghost use Rattle.checked.specs.Checked.{first, nine};
-ghost use Rattle.piece_boxes.specs.Windows.{agree, chosen, halvedC, turningC, widened, windowC};
+ghost use Rattle.piece_boxes.specs.Brackets.{agree, chosen, bisectedC, turningC, widened, bracketC};
 use checked::CheckedNumber;
 use checked::earlier;
 use checked::note;
 use order::greatest;
 use order::least;
 use piece_curves::meet_curves::CheckedVec2;
-use piece_curves::meet_curves::Course;
-use piece_curves::meet_curves::Pace;
+use piece_curves::meet_curves::MeetCurve;
+use piece_curves::meet_curves::MeetRates;
 use piece_curves::meet_curves::motion;
 use piece_curves::meet_curves::point;
 use vectors::Vec2;
 
 // Where the derivative changes sign.
-pub struct Gap {
+pub struct Bracket {
     pub lo: f64,
     pub hi: f64,
 }
 
-pub struct CheckedGap {
-    pub value: Gap,
+pub struct CheckedBracket {
+    pub value: Bracket,
     pub refusal: u8,
 }
 
@@ -40,7 +40,7 @@ pub struct CheckedBox {
 }
 
 // Of a motion how fast v runs where `upright`, else u.
-fn slope(p: Pace, upright: bool) -> CheckedNumber
+fn slope(p: MeetRates, upright: bool) -> CheckedNumber
     ensures refusal { λ r. ⌜ r .refusal ≡ cond upright (p .rv) (p .ru) ⌝ }
     ensures value { λ r. ⌜ r .value ≡ cond upright (p .v) (p .u) ⌝ }
 {
@@ -64,34 +64,34 @@ fn agree(p: bool, q: bool) -> bool
 }
 
 // The half of a gap up to m, or from there on, by the derivative at m.
-fn chosen(g: Gap, m: f64, d: f64, rising: bool) -> Gap
+fn chosen(g: Bracket, m: f64, d: f64, rising: bool) -> Bracket
     ensures { λ r. ⌜ r ≡ chosen g m d rising ⌝ }
 {
     if agree(0.0 < d, rising) {
-        Gap { lo: g.lo, hi: m }
+        Bracket { lo: g.lo, hi: m }
     } else {
-        Gap { lo: m, hi: g.hi }
+        Bracket { lo: m, hi: g.hi }
     }
 }
 
 // The half of a gap in which the derivative changes sign, by the motion at its middle m. The course
 // itself would be copied at each halving.
-fn halve(p: Pace, upright: bool, rising: bool, g: Gap, m: f64) -> CheckedGap
+fn bisect(p: MeetRates, upright: bool, rising: bool, g: Bracket, m: f64) -> CheckedBracket
     ensures refusal { λ r. ⌜ r .refusal ≡ first (nine m) (cond upright (p .rv) (p .ru)) ⌝ }
     ensures value { λ r. ⌜ r .value ≡ chosen g m (cond upright (p .v) (p .u)) rising ⌝ }
 {
     let d = slope(p, upright);
     let h = chosen(g, m, d.value, rising);
-    CheckedGap {
+    CheckedBracket {
         refusal: earlier(note(0, m), d.refusal),
         value: h,
     }
 }
 
 // Sixty halvings.
-fn halved(c: Course, upright: bool, rising: bool, g: Gap) -> CheckedGap
-    ensures refusal { λ r. ⌜ r .refusal ≡ halvedC c upright rising g .refusal ⌝ }
-    ensures value { λ r. ⌜ r .value ≡ halvedC c upright rising g .value ⌝ }
+fn bisected(c: MeetCurve, upright: bool, rising: bool, g: Bracket) -> CheckedBracket
+    ensures refusal { λ r. ⌜ r .refusal ≡ bisectedC c upright rising g .refusal ⌝ }
+    ensures value { λ r. ⌜ r .value ≡ bisectedC c upright rising g .value ⌝ }
 {
     let mut a = g;
     let mut r: u8 = 0;
@@ -99,23 +99,23 @@ fn halved(c: Course, upright: bool, rising: bool, g: Gap) -> CheckedGap
     while i < 60 {
         let m = 0.5 * (a.lo + a.hi);
         let p = motion(c, m);
-        let h = halve(p, upright, rising, a, m);
+        let h = bisect(p, upright, rising, a, m);
         a = h.value;
         r = earlier(r, h.refusal);
         i += 1;
     }
-    CheckedGap {
+    CheckedBracket {
         refusal: r,
         value: a,
     }
 }
 
 // The point where the piece turns, between two places.
-fn turning(c: Course, upright: bool, rising: bool, g: Gap) -> CheckedVec2
+fn turning(c: MeetCurve, upright: bool, rising: bool, g: Bracket) -> CheckedVec2
     ensures refusal { λ r. ⌜ r .refusal ≡ turningC c upright rising g .refusal ⌝ }
     ensures value { λ r. ⌜ r .value ≡ turningC c upright rising g .value ⌝ }
 {
-    let h = halved(c, upright, rising, g);
+    let h = bisected(c, upright, rising, g);
     let m = 0.5 * (h.value.lo + h.value.hi);
     let p = point(c, m);
     let q = p.value;
@@ -142,10 +142,10 @@ pub fn widen(b: FlatBox, p: Vec2) -> FlatBox
 
 // The box with the turning point between the samples k and k + 1, of derivatives d0 and d1, where
 // there is one.
-pub fn window(c: Course, upright: bool, k: u16, d0: f64, d1: f64, b: FlatBox) -> CheckedBox
+pub fn bracketed(c: MeetCurve, upright: bool, k: u16, d0: f64, d1: f64, b: FlatBox) -> CheckedBox
     requires { ⌜ k < 64 ⌝ }
-    ensures refusal { λ r. ⌜ r .refusal ≡ windowC c upright k d0 d1 b .refusal ⌝ }
-    ensures value { λ r. ⌜ r .value ≡ windowC c upright k d0 d1 b .value ⌝ }
+    ensures refusal { λ r. ⌜ r .refusal ≡ bracketC c upright k d0 d1 b .refusal ⌝ }
+    ensures value { λ r. ⌜ r .value ≡ bracketC c upright k d0 d1 b .value ⌝ }
 {
     if agree(0.0 < d0, 0.0 < d1) {
         CheckedBox {
@@ -155,7 +155,7 @@ pub fn window(c: Course, upright: bool, k: u16, d0: f64, d1: f64, b: FlatBox) ->
     } else {
         let lo = (k as f64) / 64.0;
         let hi = ((k + 1) as f64) / 64.0;
-        let p = turning(c, upright, d0 <= 0.0, Gap { lo: lo, hi: hi });
+        let p = turning(c, upright, d0 <= 0.0, Bracket { lo: lo, hi: hi });
         CheckedBox {
             refusal: earlier(note(note(0, lo), hi), p.refusal),
             value: widen(b, p.value),

@@ -7,8 +7,8 @@ use crate::meet_boxes::meet_box;
 use checked::note;
 use order::greatest;
 use order::least;
-use piece_curves::Run;
-use piece_curves::Way;
+use piece_curves::CurveKind;
+use piece_curves::PieceCurve;
 use piece_lengths::measures::distance;
 use profile_arcs::ProfileArc;
 use vectors::Vec2;
@@ -77,18 +77,18 @@ fn wave_box(w: Wave, f: Vec2, g: Vec2, n: f64) -> CheckedBox
     }
 }
 
-pub fn uv_box(r: Run) -> CheckedBox
+pub fn uv_box(r: PieceCurve) -> CheckedBox
     ensures refusal { λ o. ⌜ o .refusal ≡ boxC r .refusal ⌝ }
     ensures value { λ o. ⌜ o .value ≡ boxC r .value ⌝ }
 {
     let w = r.way;
     match w {
-        Way::Straight => CheckedBox {
+        CurveKind::Straight => CheckedBox {
             refusal: 0,
             value: ends(r.from, r.to),
         },
-        Way::Arc(a) => arc_box(a, r.from, r.to),
-        Way::Wave(v) => wave_box(v, r.from, r.to, r.neutral),
-        Way::Meet(c) => meet_box(c),
+        CurveKind::Arc(a) => arc_box(a, r.from, r.to),
+        CurveKind::Wave(v) => wave_box(v, r.from, r.to, r.neutral),
+        CurveKind::Meet(c) => meet_box(c),
     }
 }

@@ -11,13 +11,13 @@ ghost use Rattle.piece_boxes.specs.MeetBoxes.{isEnd, endC, startC, spanC
 ghost use Rattle.piece_boxes.specs.SampleRows.{Stored};
 use crate::brackets::CheckedBox;
 use crate::brackets::FlatBox;
+use crate::brackets::bracketed;
 use crate::brackets::widen;
-use crate::brackets::window;
 use checked::earlier;
 use checked::note;
 use piece_curves::meet_curves::CheckedVec2;
-use piece_curves::meet_curves::Course;
-use piece_curves::meet_curves::Pace;
+use piece_curves::meet_curves::MeetCurve;
+use piece_curves::meet_curves::MeetRates;
 use piece_curves::meet_curves::motion;
 use piece_curves::meet_curves::point;
 use vectors::Vec2;
@@ -31,7 +31,7 @@ struct Samples {
 }
 
 // The derivatives of a motion at t. The course itself would be copied at each sample.
-fn sample(m: Pace, t: f64) -> CheckedVec2
+fn sample(m: MeetRates, t: f64) -> CheckedVec2
     ensures refusal { λ r. ⌜ r .refusal ≡ first (nine t) (first (m .ru) (m .rv)) ⌝ }
     ensures value { λ r. ⌜ r .value ≡ plane (m .u) (m .v) ⌝ }
 {
@@ -48,7 +48,7 @@ fn is_end(k: u16) -> bool
 }
 
 // The box with the point at place k, where that is an end.
-fn end(c: Course, k: u16, b: FlatBox) -> CheckedBox
+fn end(c: MeetCurve, k: u16, b: FlatBox) -> CheckedBox
     ensures refusal { λ r. ⌜ r .refusal ≡ endC c k b .refusal ⌝ }
     ensures value { λ r. ⌜ r .value ≡ endC c k b .value ⌝ }
 {
@@ -68,7 +68,7 @@ fn end(c: Course, k: u16, b: FlatBox) -> CheckedBox
     }
 }
 
-fn sampled(c: Course) -> Samples
+fn sampled(c: MeetCurve) -> Samples
     ensures refusal { λ r. ⌜ r .refusal ≡ startC c .refusal ⌝ }
     ensures ends { λ r. ⌜ r .ends ≡ startC c .value ⌝ }
     ensures stored { λ r. ⌜ Stored c 65 (r .u) (r .v) ⌝ }
@@ -109,7 +109,7 @@ fn at(row: &[f64; 65], k: u16) -> f64
 }
 
 // The box with the turning points between all samples.
-fn spanned(c: Course, us: &[f64; 65], vs: &[f64; 65], start: FlatBox) -> CheckedBox
+fn spanned(c: MeetCurve, us: &[f64; 65], vs: &[f64; 65], start: FlatBox) -> CheckedBox
     requires { ⌜ Stored c 65 (now us) (now vs) ⌝ }
     ensures refusal { λ r. ⌜ r .refusal ≡ foldC 64 (spanC c) start .refusal ⌝ }
     ensures value { λ r. ⌜ r .value ≡ foldC 64 (spanC c) start .value ⌝ }
@@ -118,9 +118,9 @@ fn spanned(c: Course, us: &[f64; 65], vs: &[f64; 65], start: FlatBox) -> Checked
     let mut r: u8 = 0;
     let mut k: u16 = 0;
     while k < 64 {
-        let x = window(c, false, k, at(us, k), at(us, k + 1), b);
+        let x = bracketed(c, false, k, at(us, k), at(us, k + 1), b);
         let a = x.value;
-        let y = window(c, true, k, at(vs, k), at(vs, k + 1), a);
+        let y = bracketed(c, true, k, at(vs, k), at(vs, k + 1), a);
         b = y.value;
         r = earlier(r, earlier(x.refusal, y.refusal));
         k += 1;
@@ -132,7 +132,7 @@ fn spanned(c: Course, us: &[f64; 65], vs: &[f64; 65], start: FlatBox) -> Checked
 }
 
 // The least and greatest u and v. A refusal of a sample comes before any of a halving.
-pub fn meet_box(c: Course) -> CheckedBox
+pub fn meet_box(c: MeetCurve) -> CheckedBox
     ensures refusal { λ r. ⌜ r .refusal ≡ boxC c .refusal ⌝ }
     ensures value { λ r. ⌜ r .value ≡ boxC c .value ⌝ }
 {

@@ -3,14 +3,14 @@
 ghost use mathlib.Core.Path.{_≡_};
 ghost use Rattle.checked.specs.Checked.{first};
 ghost use Rattle.boxes.specs.Boxes.{widenedBy};
-ghost use Rattle.piece_boxes.specs.Bounds.{rimC, rimsC, pointsC};
+ghost use Rattle.piece_boxes.specs.SpaceBoxes.{endArcC, endArcsC, pointsC};
 use crate::brackets::FlatBox;
 use crate::curve_boxes::uv_box;
 use arcs::extremes::extended;
 use boxes::CheckedBounds;
 use checked::earlier;
 use developments::formulas::point;
-use piece_curves::Run;
+use piece_curves::PieceCurve;
 use vectors::Vec2;
 use vectors::Vec3;
 use vectors::formula::noted;
@@ -18,7 +18,7 @@ use vectors::formula::plus;
 use vectors::formula::times;
 
 // The box widened by the arc at v, from u0 to u1, after what was met on the way to the box.
-fn with_rim(
+fn with_end_arc(
     origin: Vec3,
     axis: Vec3,
     start: Vec3,
@@ -29,8 +29,8 @@ fn with_rim(
     v: f64,
     b: CheckedBounds,
 ) -> CheckedBounds
-    ensures refusal { λ r. ⌜ r .refusal ≡ first (b .refusal) (rimC origin axis start neutral radius u0 u1 v .refusal) ⌝ }
-    ensures value { λ r. ⌜ r .value ≡ widenedBy (b .value) (rimC origin axis start neutral radius u0 u1 v .value) ⌝ }
+    ensures refusal { λ r. ⌜ r .refusal ≡ first (b .refusal) (endArcC origin axis start neutral radius u0 u1 v .refusal) ⌝ }
+    ensures value { λ r. ⌜ r .value ≡ widenedBy (b .value) (endArcC origin axis start neutral radius u0 u1 v .value) ⌝ }
 {
     let c = plus(origin, times(axis, v));
     let x = point(origin, axis, start, neutral, Vec2 { x: u0, y: v }, radius);
@@ -46,7 +46,7 @@ fn with_rim(
 }
 
 // The box widened by both arcs of a box in the development.
-fn with_rims(
+fn with_end_arcs(
     origin: Vec3,
     axis: Vec3,
     start: Vec3,
@@ -55,10 +55,10 @@ fn with_rims(
     f: FlatBox,
     b: CheckedBounds,
 ) -> CheckedBounds
-    ensures refusal { λ r. ⌜ r .refusal ≡ first (b .refusal) (rimsC origin axis start neutral radius f .refusal) ⌝ }
-    ensures value { λ r. ⌜ r .value ≡ widenedBy (b .value) (rimsC origin axis start neutral radius f .value) ⌝ }
+    ensures refusal { λ r. ⌜ r .refusal ≡ first (b .refusal) (endArcsC origin axis start neutral radius f .refusal) ⌝ }
+    ensures value { λ r. ⌜ r .value ≡ widenedBy (b .value) (endArcsC origin axis start neutral radius f .value) ⌝ }
 {
-    let low = with_rim(
+    let low = with_end_arc(
         origin,
         axis,
         start,
@@ -69,7 +69,7 @@ fn with_rims(
         f.low.y,
         b,
     );
-    with_rim(
+    with_end_arc(
         origin,
         axis,
         start,
@@ -88,7 +88,7 @@ pub fn extended_by(
     axis: Vec3,
     start: Vec3,
     radius: f64,
-    r: Run,
+    r: PieceCurve,
     b: CheckedBounds,
 ) -> CheckedBounds
     ensures refusal { λ o. ⌜ o .refusal ≡ first (b .refusal) (pointsC origin axis start radius r .refusal) ⌝ }
@@ -101,5 +101,5 @@ pub fn extended_by(
         refusal: earlier(b.refusal, x.refusal),
         value: before,
     };
-    with_rims(origin, axis, start, r.neutral, radius, f, so_far)
+    with_end_arcs(origin, axis, start, r.neutral, radius, f, so_far)
 }

@@ -1,6 +1,6 @@
-pub mod Courses
+pub mod MeetCurves
 pub mod MeetCurvesLaws
+pub mod PieceCurves
 pub mod Points
 pub mod PointsLaws
-pub mod Runs
-pub mod Spots
+pub mod SpacePoints

@@ -2,7 +2,7 @@
 -- derivative in t.
 use lib.Ieee.{Float}
 use Rattle.checked.specs.Checked.{Checked, first, _>>=_, given, finite, num, minus, _⊕_, _⊖_, _⊗_}
-use Rattle.libm.specs.Circle.{sincosC}
+use Rattle.libm.specs.Sincos.{sincosC}
 use Rattle.vectors.specs.declared.Vec2.{Vec2}
 use Rattle.vectors.specs.Vectors.{plane}
 use Rattle.profile_arcs.specs.declared.ProfileArc.{ProfileArc}
@@ -10,10 +10,10 @@ use Rattle.profile_arcs.specs.Profiles.{turnC}
 use Rattle.waves.specs.declared.Wave.{Wave}
 use Rattle.waves.specs.Values as waves
 use Rattle.piece_curves.specs.declared.meet_curves.Place.{Place}
-use Rattle.piece_curves.specs.Courses as courses
-use Rattle.piece_curves.specs.declared.Way.{Way}
-use Rattle.piece_curves.specs.declared.Way.the-variants as way
-use Rattle.piece_curves.specs.declared.Run.{Run}
+use Rattle.piece_curves.specs.MeetCurves as courses
+use Rattle.piece_curves.specs.declared.CurveKind.{CurveKind}
+use Rattle.piece_curves.specs.declared.CurveKind.the-variants as way
+use Rattle.piece_curves.specs.declared.PieceCurve.{PieceCurve}
 use Rattle.piece_curves.specs.declared.points.Swung.{Swung}
 
 -- straight on
@@ -65,12 +65,12 @@ waveC w from to n t = do
   given (record { p = plane u (h .v); d = plane du dv })
 
 -- the point at t and its derivative, where the way is known
-abbrev pub atBy : Way → Run → Float → Checked Place
+abbrev pub atBy : CurveKind → PieceCurve → Float → Checked Place
 atBy way.Straight r t = straightC (r .from) (r .to) t
 atBy (way.Arc a) r t = arcC a (r .from) (r .to) t
 atBy (way.Wave w) r t = waveC w (r .from) (r .to) (r .neutral) t
 atBy (way.Meet c) r t = courses.atC c t
 
 -- the point at t and its derivative
-unfoldable pub atC : Run → Float → Checked Place
+unfoldable pub atC : PieceCurve → Float → Checked Place
 atC r t = atBy (r .way) r t

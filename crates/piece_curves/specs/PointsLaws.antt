@@ -3,7 +3,7 @@ use mathlib.Core.Path.{_≡_}
 use lib.Ieee.{Float, binary64, sub, mul}
 use Rattle.checked.specs.Checked.{Checked, first, nine}
 use Rattle.checked.specs.Laws.{rules as checked-rules}
-use Rattle.libm.specs.Circle.{sincosC}
+use Rattle.libm.specs.Sincos.{sincosC}
 use Rattle.vectors.specs.declared.Vec2.{Vec2}
 use Rattle.profile_arcs.specs.declared.ProfileArc.{ProfileArc}
 use Rattle.profile_arcs.specs.Profiles.{turnC}

@@ -1,8 +1,8 @@
 // What a piece of a development follows, from its first end to its last, ready to be followed: of a
 // meet the pipe is worked out once.
 ghost use mathlib.Core.Path.{_≡_};
-ghost use Rattle.piece_curves.specs.Runs.{meetWayC, tracedC, untraced, wayC, runC};
-use crate::meet_curves::Course;
+ghost use Rattle.piece_curves.specs.PieceCurves.{meetKindC, tracedC, untraced, kindC, curveC};
+use crate::meet_curves::MeetCurve;
 use meets::Meet;
 use meets::formula::pipe;
 use profile_arcs::ProfileArc;
@@ -26,79 +26,79 @@ pub enum PieceTrace {
     With(Trace),
 }
 
-pub enum Way {
+pub enum CurveKind {
     Straight,
     Arc(ProfileArc),
     Wave(Wave),
-    Meet(Course),
+    Meet(MeetCurve),
 }
 
-pub struct CheckedWay {
-    pub value: Way,
+pub struct CheckedCurveKind {
+    pub value: CurveKind,
     pub refusal: u8,
 }
 
 // A piece in its development: its ends, the neutral radius, and what it follows between them.
-pub struct Run {
+pub struct PieceCurve {
     pub from: Vec2,
     pub to: Vec2,
     pub neutral: f64,
-    pub way: Way,
+    pub way: CurveKind,
 }
 
-pub struct CheckedRun {
-    pub value: Run,
+pub struct CheckedPieceCurve {
+    pub value: PieceCurve,
     pub refusal: u8,
 }
 
-fn meet_way(from: Vec2, to: Vec2, neutral: f64, m: Meet) -> CheckedWay
-    ensures refusal { λ r. ⌜ r .refusal ≡ meetWayC from to neutral m .refusal ⌝ }
-    ensures value { λ r. ⌜ r .value ≡ meetWayC from to neutral m .value ⌝ }
+fn meet_way(from: Vec2, to: Vec2, neutral: f64, m: Meet) -> CheckedCurveKind
+    ensures refusal { λ r. ⌜ r .refusal ≡ meetKindC from to neutral m .refusal ⌝ }
+    ensures value { λ r. ⌜ r .value ≡ meetKindC from to neutral m .value ⌝ }
 {
     let x = pipe(m, neutral);
     let p = x.value;
     let k = m.turn;
-    let c = Course {
+    let c = MeetCurve {
         from: from.x,
         to: to.x,
         neutral: neutral,
         turn: k,
         pipe: p,
     };
-    CheckedWay {
+    CheckedCurveKind {
         refusal: x.refusal,
-        value: Way::Meet(c),
+        value: CurveKind::Meet(c),
     }
 }
 
-fn traced(from: Vec2, to: Vec2, neutral: f64, t: Trace) -> CheckedWay
+fn traced(from: Vec2, to: Vec2, neutral: f64, t: Trace) -> CheckedCurveKind
     ensures refusal { λ r. ⌜ r .refusal ≡ tracedC from to neutral t .refusal ⌝ }
     ensures value { λ r. ⌜ r .value ≡ tracedC from to neutral t .value ⌝ }
 {
     match t {
-        Trace::Wave(w) => CheckedWay {
+        Trace::Wave(w) => CheckedCurveKind {
             refusal: 0,
-            value: Way::Wave(w),
+            value: CurveKind::Wave(w),
         },
         Trace::Meet(m) => meet_way(from, to, neutral, m),
     }
 }
 
-fn untraced(arc: PieceArc) -> Way
+fn untraced(arc: PieceArc) -> CurveKind
     ensures { λ r. ⌜ r ≡ untraced arc ⌝ }
 {
     match arc {
-        PieceArc::Without => Way::Straight,
-        PieceArc::With(a) => Way::Arc(a),
+        PieceArc::Without => CurveKind::Straight,
+        PieceArc::With(a) => CurveKind::Arc(a),
     }
 }
 
-fn way_of(from: Vec2, to: Vec2, neutral: f64, arc: PieceArc, trace: PieceTrace) -> CheckedWay
-    ensures refusal { λ r. ⌜ r .refusal ≡ wayC from to neutral arc trace .refusal ⌝ }
-    ensures value { λ r. ⌜ r .value ≡ wayC from to neutral arc trace .value ⌝ }
+fn way_of(from: Vec2, to: Vec2, neutral: f64, arc: PieceArc, trace: PieceTrace) -> CheckedCurveKind
+    ensures refusal { λ r. ⌜ r .refusal ≡ kindC from to neutral arc trace .refusal ⌝ }
+    ensures value { λ r. ⌜ r .value ≡ kindC from to neutral arc trace .value ⌝ }
 {
     match trace {
-        PieceTrace::Without => CheckedWay {
+        PieceTrace::Without => CheckedCurveKind {
             refusal: 0,
             value: untraced(arc),
         },
@@ -107,15 +107,21 @@ fn way_of(from: Vec2, to: Vec2, neutral: f64, arc: PieceArc, trace: PieceTrace) 
 }
 
 // The piece of these ends, arc and trace.
-pub fn run_of(from: Vec2, to: Vec2, neutral: f64, arc: PieceArc, trace: PieceTrace) -> CheckedRun
-    ensures refusal { λ r. ⌜ r .refusal ≡ runC from to neutral arc trace .refusal ⌝ }
-    ensures value { λ r. ⌜ r .value ≡ runC from to neutral arc trace .value ⌝ }
+pub fn curve_of(
+    from: Vec2,
+    to: Vec2,
+    neutral: f64,
+    arc: PieceArc,
+    trace: PieceTrace,
+) -> CheckedPieceCurve
+    ensures refusal { λ r. ⌜ r .refusal ≡ curveC from to neutral arc trace .refusal ⌝ }
+    ensures value { λ r. ⌜ r .value ≡ curveC from to neutral arc trace .value ⌝ }
 {
     let x = way_of(from, to, neutral, arc, trace);
     let w = x.value;
-    CheckedRun {
+    CheckedPieceCurve {
         refusal: x.refusal,
-        value: Run {
+        value: PieceCurve {
             from: from,
             to: to,
             neutral: neutral,

@@ -1,9 +1,9 @@
 // A piece of a development that follows a meet, on numbers of any size: where it is at t, and how
 // it moves. A call works out what its caller reads, and no more.
 ghost use mathlib.Core.Path.{_≡_};
-ghost use Rattle.meets.specs.Pipes.{reachC};
-ghost use Rattle.meets.specs.Reaches.{speedC};
-ghost use Rattle.piece_curves.specs.Courses.{rateC, angleC, reachedC, spotC, slopeVC, aroundC, slopeUC, nearC, pointC, placedC, atC};
+ghost use Rattle.meets.specs.Quadratic.{intersectionC};
+ghost use Rattle.meets.specs.Generatrix.{firstDerivativesC};
+ghost use Rattle.piece_curves.specs.MeetCurves.{rateC, angleC, intersectionAtC, spotC, slopeVC, aroundC, slopeUC, nearC, pointC, placedC, atC};
 use checked::TAU;
 use checked::earlier;
 use checked::note;
@@ -11,12 +11,12 @@ use directions::formula::across;
 use libm::atan2::atan2;
 use libm::sincos::sincos;
 use meets::Turn;
-use meets::generatrix::CheckedSpeed;
-use meets::generatrix::Speed;
-use meets::quadratic::CheckedReached;
+use meets::generatrix::CheckedFirstDerivatives;
+use meets::generatrix::FirstDerivatives;
+use meets::quadratic::CheckedIntersection;
+use meets::quadratic::Intersection;
 use meets::quadratic::Pipe;
 use meets::quadratic::Quadratic;
-use meets::quadratic::Reached;
 use meets::quadratic::lesser;
 use rounding::round;
 use rounding::sqrt;
@@ -30,7 +30,7 @@ use vectors::formula::times;
 
 // The piece's first and last u, the neutral radius, the angles of a hole, and the pipe, worked out
 // once.
-pub struct Course {
+pub struct MeetCurve {
     pub from: f64,
     pub to: f64,
     pub neutral: f64,
@@ -40,7 +40,7 @@ pub struct Course {
 
 // How fast u and v run, and the point in space, each with the refusal met on the way to it; that of
 // the point is up to the cylinder met, and its numbers are for the caller to note.
-pub struct Pace {
+pub struct MeetRates {
     pub u: f64,
     pub ru: u8,
     pub v: f64,
@@ -66,7 +66,7 @@ pub struct CheckedPlace {
 }
 
 // How fast the angle runs.
-pub fn rate(c: Course) -> f64
+pub fn rate(c: MeetCurve) -> f64
     ensures { λ r. ⌜ r ≡ rateC c .value ⌝ }
 {
     let t = c.turn;
@@ -77,7 +77,7 @@ pub fn rate(c: Course) -> f64
 }
 
 // The angle at t.
-pub fn angle(c: Course, t: f64) -> f64
+pub fn angle(c: MeetCurve, t: f64) -> f64
     ensures { λ r. ⌜ r ≡ angleC c t .value ⌝ }
 {
     let k = c.turn;
@@ -89,9 +89,9 @@ pub fn angle(c: Course, t: f64) -> f64
 
 // `reach` of `pipes` and `speed_at` of `reaches` once more: with one call each they become a part
 // of `moved`, and their many numbers stay in registers.
-fn reach_here(p: Pipe, phi: f64) -> CheckedReached
-    ensures refusal { λ r. ⌜ r .refusal ≡ reachC p phi .refusal ⌝ }
-    ensures value { λ r. ⌜ r .value ≡ reachC p phi .value ⌝ }
+fn reach_here(p: Pipe, phi: f64) -> CheckedIntersection
+    ensures refusal { λ r. ⌜ r .refusal ≡ intersectionC p phi .refusal ⌝ }
+    ensures value { λ r. ⌜ r .value ≡ intersectionC p phi .value ⌝ }
 {
     let x = sincos(phi);
     let around = plus(times(p.e1, x.cos), times(p.e2, x.sin));
@@ -108,9 +108,9 @@ fn reach_here(p: Pipe, phi: f64) -> CheckedReached
         cc: cc,
         root: root,
     });
-    CheckedReached {
+    CheckedIntersection {
         refusal: earlier(note(x.refusal, root), t.refusal),
-        value: Reached {
+        value: Intersection {
             s: x.sin,
             c: x.cos,
             around: around,
@@ -124,18 +124,18 @@ fn reach_here(p: Pipe, phi: f64) -> CheckedReached
     }
 }
 
-fn speed_here(p: Pipe, h: Reached) -> CheckedSpeed
-    ensures refusal { λ r. ⌜ r .refusal ≡ speedC p h .refusal ⌝ }
-    ensures value { λ r. ⌜ r .value ≡ speedC p h .value ⌝ }
+fn speed_here(p: Pipe, h: Intersection) -> CheckedFirstDerivatives
+    ensures refusal { λ r. ⌜ r .refusal ≡ firstDerivativesC p h .refusal ⌝ }
+    ensures value { λ r. ⌜ r .value ≡ firstDerivativesC p h .value ⌝ }
 {
     let d1 = times(minus(times(p.e2, h.c), times(p.e1, h.s)), p.r);
     let w1 = across(p.ma, d1);
     let b1 = dot(w1, h.af);
     let c1 = 2.0 * dot(h.w, w1);
     let t1 = (b1 * h.t + 0.5 * c1) / h.root;
-    CheckedSpeed {
+    CheckedFirstDerivatives {
         refusal: note(0, t1),
-        value: Speed {
+        value: FirstDerivatives {
             d1: d1,
             w1: w1,
             b1: b1,
@@ -145,12 +145,12 @@ fn speed_here(p: Pipe, h: Reached) -> CheckedSpeed
 }
 
 // How fast u runs at t along a hole, how fast v runs, and where the generatrix ends.
-fn moved(c: Course, t: f64) -> Pace
+fn moved(c: MeetCurve, t: f64) -> MeetRates
     ensures ru { λ r. ⌜ r .ru ≡ aroundC c t .refusal ⌝ }
     ensures u { λ r. ⌜ r .u ≡ aroundC c t .value ⌝ }
     ensures rv { λ r. ⌜ r .rv ≡ slopeVC c t .refusal ⌝ }
     ensures v { λ r. ⌜ r .v ≡ slopeVC c t .value ⌝ }
-    ensures rq { λ r. ⌜ r .rq ≡ reachedC c t .refusal ⌝ }
+    ensures rq { λ r. ⌜ r .rq ≡ intersectionAtC c t .refusal ⌝ }
     ensures q { λ r. ⌜ r .q ≡ spotC c t .value ⌝ }
 {
     let k = rate(c);
@@ -166,7 +166,7 @@ fn moved(c: Course, t: f64) -> Pace
     let r2 = q.x * q.x + q.y * q.y;
     let e = c.neutral * ((q.x * q1y - q.y * q1x) / r2) * k;
     let r = earlier(note(note(0, k), phi), earlier(x.refusal, v.refusal));
-    Pace {
+    MeetRates {
         u: e,
         ru: note(note(r, r2), e),
         v: d,
@@ -177,12 +177,12 @@ fn moved(c: Course, t: f64) -> Pace
 }
 
 // How fast u and v run at t, and where the generatrix ends.
-pub fn motion(c: Course, t: f64) -> Pace
+pub fn motion(c: MeetCurve, t: f64) -> MeetRates
     ensures ru { λ r. ⌜ r .ru ≡ slopeUC c t .refusal ⌝ }
     ensures u { λ r. ⌜ r .u ≡ slopeUC c t .value ⌝ }
     ensures rv { λ r. ⌜ r .rv ≡ slopeVC c t .refusal ⌝ }
     ensures v { λ r. ⌜ r .v ≡ slopeVC c t .value ⌝ }
-    ensures rq { λ r. ⌜ r .rq ≡ reachedC c t .refusal ⌝ }
+    ensures rq { λ r. ⌜ r .rq ≡ intersectionAtC c t .refusal ⌝ }
     ensures q { λ r. ⌜ r .q ≡ spotC c t .value ⌝ }
 {
     let m = moved(c, t);
@@ -191,7 +191,7 @@ pub fn motion(c: Course, t: f64) -> Pace
         Turn::Without => {
             let d = c.to - c.from;
             let q = m.q;
-            Pace {
+            MeetRates {
                 u: d,
                 ru: note(0, d),
                 v: m.v,
@@ -205,7 +205,7 @@ pub fn motion(c: Course, t: f64) -> Pace
 }
 
 // u of a point in space, within half a turn of the piece's first.
-fn near(c: Course, q: Vec3) -> f64
+fn near(c: MeetCurve, q: Vec3) -> f64
     ensures { λ r. ⌜ r ≡ nearC c q .value ⌝ }
 {
     let turn = c.neutral * TAU;
@@ -214,7 +214,7 @@ fn near(c: Course, q: Vec3) -> f64
 }
 
 // u and v where the generatrix at t ends at q.
-pub fn placed(c: Course, t: f64, q: Vec3) -> CheckedVec2
+pub fn placed(c: MeetCurve, t: f64, q: Vec3) -> CheckedVec2
     ensures refusal { λ r. ⌜ r .refusal ≡ placedC c t q .refusal ⌝ }
     ensures value { λ r. ⌜ r .value ≡ placedC c t q .value ⌝ }
 {
@@ -238,7 +238,7 @@ pub fn placed(c: Course, t: f64, q: Vec3) -> CheckedVec2
 }
 
 // The point at t.
-pub fn point(c: Course, t: f64) -> CheckedVec2
+pub fn point(c: MeetCurve, t: f64) -> CheckedVec2
     ensures refusal { λ r. ⌜ r .refusal ≡ pointC c t .refusal ⌝ }
     ensures value { λ r. ⌜ r .value ≡ pointC c t .value ⌝ }
 {
@@ -252,7 +252,7 @@ pub fn point(c: Course, t: f64) -> CheckedVec2
 }
 
 // The point at t, and its derivative.
-pub fn at(c: Course, t: f64) -> CheckedPlace
+pub fn at(c: MeetCurve, t: f64) -> CheckedPlace
     ensures refusal { λ r. ⌜ r .refusal ≡ atC c t .refusal ⌝ }
     ensures value { λ r. ⌜ r .value ≡ atC c t .value ⌝ }
 {

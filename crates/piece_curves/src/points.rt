@@ -2,8 +2,8 @@
 // moves there: on numbers of any size.
 ghost use mathlib.Core.Path.{_≡_};
 ghost use Rattle.piece_curves.specs.Points.{straightC, swungC, arcPointC, arcC, waveC, atC};
-use crate::Run;
-use crate::Way;
+use crate::CurveKind;
+use crate::PieceCurve;
 use crate::meet_curves;
 use crate::meet_curves::CheckedPlace;
 use crate::meet_curves::CheckedVec2;
@@ -122,15 +122,15 @@ pub fn wave_at(w: Wave, from: Vec2, to: Vec2, n: f64, t: f64) -> CheckedPlace
 }
 
 // The point at t, and its derivative.
-pub fn at(r: Run, t: f64) -> CheckedPlace
+pub fn at(r: PieceCurve, t: f64) -> CheckedPlace
     ensures refusal { λ o. ⌜ o .refusal ≡ atC r t .refusal ⌝ }
     ensures value { λ o. ⌜ o .value ≡ atC r t .value ⌝ }
 {
     let w = r.way;
     match w {
-        Way::Straight => straight_at(r.from, r.to, t),
-        Way::Arc(a) => arc_at(a, r.from, r.to, t),
-        Way::Wave(v) => wave_at(v, r.from, r.to, r.neutral, t),
-        Way::Meet(c) => meet_curves::at(c, t),
+        CurveKind::Straight => straight_at(r.from, r.to, t),
+        CurveKind::Arc(a) => arc_at(a, r.from, r.to, t),
+        CurveKind::Wave(v) => wave_at(v, r.from, r.to, r.neutral, t),
+        CurveKind::Meet(c) => meet_curves::at(c, t),
     }
 }

@@ -1,9 +1,9 @@
 // Where a piece of a development is in space at t, from 0 at its first end to 1 at its last: what
 // drawing reads of it. How it moves there is not worked out. Numbers may be of any size.
 ghost use mathlib.Core.Path.{_≡_};
-ghost use Rattle.piece_curves.specs.Spots.{straightC, waveC, flatC, rolledC};
-use crate::Run;
-use crate::Way;
+ghost use Rattle.piece_curves.specs.SpacePoints.{straightC, waveC, flatC, rolledC};
+use crate::CurveKind;
+use crate::PieceCurve;
 use crate::meet_curves;
 use crate::meet_curves::CheckedVec2;
 use crate::points::arc_point;
@@ -23,7 +23,7 @@ pub struct Rolling {
     pub axis: Vec3,
     pub start: Vec3,
     pub radius: f64,
-    pub run: Run,
+    pub run: PieceCurve,
 }
 
 fn straight_point(from: Vec2, to: Vec2, t: f64) -> CheckedVec2
@@ -53,16 +53,16 @@ fn wave_point(w: Wave, from: Vec2, to: Vec2, n: f64, t: f64) -> CheckedVec2
 }
 
 // The point at t in the development.
-pub fn flat_point(r: Run, t: f64) -> CheckedVec2
+pub fn flat_point(r: PieceCurve, t: f64) -> CheckedVec2
     ensures refusal { λ o. ⌜ o .refusal ≡ flatC r t .refusal ⌝ }
     ensures value { λ o. ⌜ o .value ≡ flatC r t .value ⌝ }
 {
     let w = r.way;
     match w {
-        Way::Straight => straight_point(r.from, r.to, t),
-        Way::Arc(a) => arc_point(a, r.from, r.to, t),
-        Way::Wave(v) => wave_point(v, r.from, r.to, r.neutral, t),
-        Way::Meet(c) => meet_curves::point(c, t),
+        CurveKind::Straight => straight_point(r.from, r.to, t),
+        CurveKind::Arc(a) => arc_point(a, r.from, r.to, t),
+        CurveKind::Wave(v) => wave_point(v, r.from, r.to, r.neutral, t),
+        CurveKind::Meet(c) => meet_curves::point(c, t),
     }
 }
 

@@ -4,7 +4,7 @@ use Prim.Native.Nat.{ℕ}
 use lib.Ieee.{Float}
 use Rattle.checked.specs.Checked.{Checked, first, _>>=_, given, finite, num, _⊕_, _⊖_, _⊗_, _⊘_}
 use Rattle.checked.specs.Numbers.{literal, float, zero, one, two, tau, quarterPi}
-use Rattle.float_bits.specs.Words.{fabs}
+use Rattle.float_bits.specs.FloatBits.{fabs}
 use Rattle.rounding.specs.Computations.{sqrtC}
 use Rattle.libm.specs.Computations.{hypotC}
 use Rattle.order.specs.Least.{greatest}
@@ -13,15 +13,15 @@ use Rattle.chord_counts.specs.Counts.{MOST, countC}
 use Rattle.chord_counts.specs.Chords.{most, perTurnC}
 use Rattle.vectors.specs.declared.Vec2.{Vec2}
 use Rattle.waves.specs.declared.Wave.{Wave}
-use Rattle.piece_curves.specs.declared.meet_curves.Course.{Course}
-use Rattle.piece_curves.specs.declared.Way.{Way}
-use Rattle.piece_curves.specs.declared.Way.the-variants as way
-use Rattle.piece_curves.specs.declared.Run.{Run}
-use Rattle.piece_lengths.specs.Bends.{meetC}
+use Rattle.piece_curves.specs.declared.meet_curves.MeetCurve.{MeetCurve}
+use Rattle.piece_curves.specs.declared.CurveKind.{CurveKind}
+use Rattle.piece_curves.specs.declared.CurveKind.the-variants as way
+use Rattle.piece_curves.specs.declared.PieceCurve.{PieceCurve}
+use Rattle.piece_lengths.specs.SecondDerivatives.{meetC}
 use Rattle.piece_lengths.specs.Measures.{measureC}
 
 -- ---- at most 45° each, in the development and about the axis
-unfoldable pub quadratureC : Run → Checked ℕ
+unfoldable pub quadratureC : PieceCurve → Checked ℕ
 quadratureC r = do
   m ← measureC r
   bend ← num (m .length) ⊘ num (r .neutral)
@@ -30,18 +30,18 @@ quadratureC r = do
 
 -- ---- chords for drawing at a distance from the axis
 -- of a full turn of the piece's own: a trace takes the most, an arc what its radius asks for
-abbrev pub ownBy : Way → Float → Float → Checked Float
+abbrev pub ownBy : CurveKind → Float → Float → Checked Float
 ownBy way.Straight rho chord = perTurnC rho chord
 ownBy (way.Arc a) rho chord = perTurnC rho chord
 ownBy (way.Wave w) rho chord = num most
 ownBy (way.Meet c) rho chord = num most
 
 -- the chords of a full turn of the piece
-unfoldable pub ownTurnC : Way → Float → Float → Checked Float
+unfoldable pub ownTurnC : CurveKind → Float → Float → Checked Float
 ownTurnC w rho chord = ownBy w rho chord
 
 -- the greater of what its own turn asks for and what its way about the axis does
-unfoldable pub chordsC : Run → Float → Float → Checked ℕ
+unfoldable pub chordsC : PieceCurve → Float → Float → Checked ℕ
 chordsC r radius chord = do
   m ← measureC r
   own ← num (m .turn) ⊘ num tau ⊗ ownTurnC (r .way) (m .radius) chord
@@ -50,8 +50,8 @@ chordsC r radius chord = do
 
 -- ---- chords of a polyline through the piece in its development, each at most `deviation` off it
 -- 8 and 256
-abbrev pub eight : Float
-eight = literal 0x4020_0000_0000_0000
+abbrev pub EIGHT : Float
+EIGHT = literal 0x4020_0000_0000_0000
 
 abbrev pub samples : Float
 samples = literal 0x4070_0000_0000_0000
@@ -64,7 +64,7 @@ steepC du amp n = do
 
 -- a wave bends at most its amplitude over the neutral radius squared
 unfoldable pub offC : Float → Float → Float → Float → Checked Float
-offC length amp n deviation = num length ⊗ sqrtC (num amp ⊘ (num n ⊗ num n) ⊘ (num eight ⊗ num deviation))
+offC length amp n deviation = num length ⊗ sqrtC (num amp ⊘ (num n ⊗ num n) ⊘ (num EIGHT ⊗ num deviation))
 
 -- along a wave
 unfoldable pub waveLineC : Wave → Vec2 → Vec2 → Float → Float → Checked ℕ
@@ -76,7 +76,7 @@ waveLineC w from to n deviation = do
   countC q two MOST
 
 -- the greater of a bend and that of the sample k
-unfoldable pub sampleC : Course → ℕ → Float → Checked Float
+unfoldable pub sampleC : MeetCurve → ℕ → Float → Checked Float
 sampleC c k a = do
   t ← num (float k) ⊘ num samples
   d ← meetC c t
@@ -88,23 +88,23 @@ abbrev pub SAMPLES : ℕ
 SAMPLES = 257
 
 -- the greatest of them
-unfoldable pub bendC : Course → Checked Float
+unfoldable pub bendC : MeetCurve → Checked Float
 bendC c = foldC SAMPLES (sampleC c) zero
 
 -- along a meet
-unfoldable pub meetLineC : Course → Float → Checked ℕ
+unfoldable pub meetLineC : MeetCurve → Float → Checked ℕ
 meetLineC c deviation = do
   bend ← bendC c
-  q ← sqrtC (num bend ⊘ (num eight ⊗ num deviation))
+  q ← sqrtC (num bend ⊘ (num EIGHT ⊗ num deviation))
   countC q two MOST
 
 -- 1 without a trace, at least 2 with one
-abbrev pub lineBy : Way → Run → Float → Checked ℕ
+abbrev pub lineBy : CurveKind → PieceCurve → Float → Checked ℕ
 lineBy way.Straight r deviation = given 1
 lineBy (way.Arc a) r deviation = given 1
 lineBy (way.Wave w) r deviation = waveLineC w (r .from) (r .to) (r .neutral) deviation
 lineBy (way.Meet c) r deviation = meetLineC c deviation
 
 -- `Rolled::polyline`
-unfoldable pub polylineC : Run → Float → Checked ℕ
+unfoldable pub polylineC : PieceCurve → Float → Checked ℕ
 polylineC r deviation = lineBy (r .way) r deviation

@@ -3,7 +3,7 @@ use Prim.Native.Nat.{ℕ, _+_}
 use lib.Ieee.{Float}
 use Rattle.checked.specs.Checked.{Checked, first, _>>=_, given, finite, num, _⊕_, _⊖_, _⊗_, _⊘_}
 use Rattle.checked.specs.Numbers.{literal, float, zero}
-use Rattle.float_bits.specs.Words.{fabs}
+use Rattle.float_bits.specs.FloatBits.{fabs}
 use Rattle.libm.specs.Roots.{hypot}
 use Rattle.checked.specs.Loops.{foldC}
 use Rattle.vectors.specs.declared.Vec2.{Vec2}
@@ -11,12 +11,12 @@ use Rattle.vectors.specs.Vectors.{plane}
 use Rattle.waves.specs.declared.Wave.{Wave}
 use Rattle.profile_arcs.specs.declared.ProfileArc.{ProfileArc}
 use Rattle.profile_arcs.specs.Profiles.{betweenC, turnC}
-use Rattle.piece_curves.specs.declared.meet_curves.Course.{Course}
+use Rattle.piece_curves.specs.declared.meet_curves.MeetCurve.{MeetCurve}
 use Rattle.piece_curves.specs.declared.meet_curves.Place.{Place}
-use Rattle.piece_curves.specs.declared.Way.{Way}
-use Rattle.piece_curves.specs.declared.Way.the-variants as way
-use Rattle.piece_curves.specs.declared.Run.{Run}
-use Rattle.piece_curves.specs.Runs.{runBy}
+use Rattle.piece_curves.specs.declared.CurveKind.{CurveKind}
+use Rattle.piece_curves.specs.declared.CurveKind.the-variants as way
+use Rattle.piece_curves.specs.declared.PieceCurve.{PieceCurve}
+use Rattle.piece_curves.specs.PieceCurves.{curveBy}
 use Rattle.piece_curves.specs.Points.{atC}
 use Rattle.piece_lengths.specs.declared.measures.Measure.{Measure}
 
@@ -39,13 +39,13 @@ abbrev pub steps : Float
 steps = literal 0x4040_0000_0000_0000
 
 -- the point after k chords, and its derivative
-unfoldable pub placeC : Run → ℕ → Checked Place
+unfoldable pub placeC : PieceCurve → ℕ → Checked Place
 placeC r k = do
   t ← num (float k) ⊘ num steps
   atC r t
 
 -- all of them, which come before the first chord
-unfoldable pub placesC : Run → Checked Place
+unfoldable pub placesC : PieceCurve → Checked Place
 placesC r = foldC PLACES (λ k p. placeC r k) (placeC r 0 .value)
 
 -- a length and the chord from a to b
@@ -59,15 +59,15 @@ furtherC s u v = do
   num s ⊕ num (fabs a)
 
 -- the length of all chords
-unfoldable pub lengthC : Run → Checked Float
+unfoldable pub lengthC : PieceCurve → Checked Float
 lengthC r = foldC CHORDS (λ k s. longerC s (placeC r k .value .p) (placeC r (k + 1) .value .p)) zero
 
 -- how far the direction turns along them
-unfoldable pub turnedC : Run → Checked Float
+unfoldable pub turnedC : PieceCurve → Checked Float
 turnedC r = foldC CHORDS (λ k s. furtherC s (placeC r k .value .d) (placeC r (k + 1) .value .d)) zero
 
 -- both, after all places
-unfoldable pub tracedC : Run → Checked Measure
+unfoldable pub tracedC : PieceCurve → Checked Measure
 tracedC r = do
   p ← placesC r
   length ← lengthC r
@@ -75,11 +75,11 @@ tracedC r = do
   given (record { radius = zero; turn = turn; length = length })
 
 -- the run along a wave, and that along a meet: its ends and neutral radius are those of the course, and no others are read
-abbrev pub waveRun : Vec2 → Vec2 → Float → Wave → Run
-waveRun from to n w = runBy from to n (way.Wave w)
+abbrev pub waveRun : Vec2 → Vec2 → Float → Wave → PieceCurve
+waveRun from to n w = curveBy from to n (way.Wave w)
 
-abbrev pub followed : Course → Run
-followed c = runBy (plane zero zero) (plane zero zero) zero (way.Meet c)
+abbrev pub followed : MeetCurve → PieceCurve
+followed c = curveBy (plane zero zero) (plane zero zero) zero (way.Meet c)
 
 -- ---- a segment, and an arc
 unfoldable pub segmentC : Vec2 → Vec2 → Checked Measure
@@ -96,12 +96,12 @@ arcC a from to = do
   given (record { radius = rho; turn = fabs t; length = length })
 
 -- the measure, where the way is known
-abbrev pub measureBy : Way → Run → Checked Measure
+abbrev pub measureBy : CurveKind → PieceCurve → Checked Measure
 measureBy way.Straight r = segmentC (r .from) (r .to)
 measureBy (way.Arc a) r = arcC a (r .from) (r .to)
 measureBy (way.Wave w) r = tracedC r
 measureBy (way.Meet c) r = tracedC r
 
 -- `Rolled::measure`
-unfoldable pub measureC : Run → Checked Measure
+unfoldable pub measureC : PieceCurve → Checked Measure
 measureC r = measureBy (r .way) r

@@ -7,12 +7,12 @@ use Rattle.checked.specs.Numbers.{two}
 use Rattle.vectors.specs.declared.Vec2.{Vec2}
 use Rattle.vectors.specs.declared.Vec3.{Vec3}
 use Rattle.meets.specs.declared.quadratic.Pipe.{Pipe}
-use Rattle.meets.specs.Pipes.{reachC}
-use Rattle.meets.specs.Reaches as reaches
-use Rattle.piece_curves.specs.declared.meet_curves.Course.{Course}
-use Rattle.piece_curves.specs.Courses.{rateC, angleC}
+use Rattle.meets.specs.Quadratic.{intersectionC}
+use Rattle.meets.specs.Generatrix as reaches
+use Rattle.piece_curves.specs.declared.meet_curves.MeetCurve.{MeetCurve}
+use Rattle.piece_curves.specs.MeetCurves.{rateC, angleC}
 use Rattle.piece_curves.specs.MeetCurvesLaws.{rate-nine, angle-nine}
-use Rattle.piece_lengths.specs.Bends.{levelC, heightBendC, angleBendC, bendVC}
+use Rattle.piece_lengths.specs.SecondDerivatives.{levelC, heightBendC, angleBendC, bendVC}
 
 pub level-refusal : (p a : Vec3) (t : Float) → levelC p a t .refusal ≡ first (nine (levelC p a t .value .x)) (nine (levelC p a t .value .y))
 unfolding levelC
@@ -39,12 +39,12 @@ pub angleBend-refusal : (q q1 q2 : Vec2) → angleBendC q q1 q2 .refusal ≡ fir
 unfolding angleBendC
 angleBend-refusal q q1 q2 = simp (swap (crossed q q1) (fourth q), swap (dividend q q1 q2) (fourth q), checked-rules)
 
-pub bendV-refusal : (c : Course) (t : Float) → bendVC c t .refusal ≡ first (nine (rateC c .value)) (first (nine (angleC c t .value)) (first (heightBendC (c .pipe) (angleC c t .value) .refusal) (nine (bendVC c t .value))))
+pub bendV-refusal : (c : MeetCurve) (t : Float) → bendVC c t .refusal ≡ first (nine (rateC c .value)) (first (nine (angleC c t .value)) (first (heightBendC (c .pipe) (angleC c t .value) .refusal) (nine (bendVC c t .value))))
 unfolding bendVC
 bendV-refusal c t = simp (rate-nine, angle-nine, checked-rules)
 
 -- a height is noted where it is multiplied
-pub heightBend-refusal : (p : Pipe) (phi : Float) → heightBendC p phi .refusal ≡ first (reachC p phi .refusal) (first (reaches.speedC p (reachC p phi .value) .refusal) (first (reaches.bendC p (reachC p phi .value) (reaches.speedC p (reachC p phi .value) .value) .refusal) (nine (heightBendC p phi .value))))
+pub heightBend-refusal : (p : Pipe) (phi : Float) → heightBendC p phi .refusal ≡ first (intersectionC p phi .refusal) (first (reaches.firstDerivativesC p (intersectionC p phi .value) .refusal) (first (reaches.secondDerivativesC p (intersectionC p phi .value) (reaches.firstDerivativesC p (intersectionC p phi .value) .value) .refusal) (nine (heightBendC p phi .value))))
 unfolding heightBendC
 heightBend-refusal p phi = simp checked-rules
 

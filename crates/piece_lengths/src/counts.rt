@@ -18,10 +18,10 @@ use chord_counts::formula::per_turn;
 use float_bits::fabs;
 use libm::roots::hypot;
 use order::greatest;
-use piece_curves::Run;
-use piece_curves::Way;
+use piece_curves::CurveKind;
+use piece_curves::PieceCurve;
 use piece_curves::meet_curves::CheckedVec2;
-use piece_curves::meet_curves::Course;
+use piece_curves::meet_curves::MeetCurve;
 use rounding::sqrt;
 use vectors::Vec2;
 use waves::Wave;
@@ -30,7 +30,7 @@ use waves::Wave;
 const FINEST: f64 = 64.0;
 
 // Pieces to integrate over: at most 45° each, in the development and about the axis.
-pub fn quadrature_pieces(r: Run) -> CheckedCount
+pub fn quadrature_pieces(r: PieceCurve) -> CheckedCount
     ensures refusal { λ o. ⌜ o .refusal ≡ quadratureC r .refusal ⌝ }
     ensures value { λ o. ⌜ o .value ≡ quadratureC r .value ⌝ }
 {
@@ -45,18 +45,18 @@ pub fn quadrature_pieces(r: Run) -> CheckedCount
 }
 
 // Chords of a full turn of the piece's own.
-fn own_turn(w: Way, rho: f64, chord: f64) -> CheckedNumber
+fn own_turn(w: CurveKind, rho: f64, chord: f64) -> CheckedNumber
     ensures refusal { λ r. ⌜ r .refusal ≡ ownTurnC w rho chord .refusal ⌝ }
     ensures value { λ r. ⌜ r .value ≡ ownTurnC w rho chord .value ⌝ }
 {
     match w {
-        Way::Straight => per_turn(rho, chord),
-        Way::Arc(_) => per_turn(rho, chord),
-        Way::Wave(_) => CheckedNumber {
+        CurveKind::Straight => per_turn(rho, chord),
+        CurveKind::Arc(_) => per_turn(rho, chord),
+        CurveKind::Wave(_) => CheckedNumber {
             refusal: 0,
             value: FINEST,
         },
-        Way::Meet(_) => CheckedNumber {
+        CurveKind::Meet(_) => CheckedNumber {
             refusal: 0,
             value: FINEST,
         },
@@ -64,7 +64,7 @@ fn own_turn(w: Way, rho: f64, chord: f64) -> CheckedNumber
 }
 
 // Chords for drawing the piece at `radius` from the axis, each at most `chord` off.
-pub fn chords_of(r: Run, radius: f64, chord: f64) -> CheckedCount
+pub fn chords_of(r: PieceCurve, radius: f64, chord: f64) -> CheckedCount
     ensures refusal { λ o. ⌜ o .refusal ≡ chordsC r radius chord .refusal ⌝ }
     ensures value { λ o. ⌜ o .value ≡ chordsC r radius chord .value ⌝ }
 {
@@ -147,7 +147,7 @@ fn sample(d: CheckedVec2, t: f64, a: f64) -> CheckedNumber
 }
 
 // The greatest second derivative of 257 samples.
-fn bend_of(c: Course) -> CheckedNumber
+fn bend_of(c: MeetCurve) -> CheckedNumber
     ensures refusal { λ r. ⌜ r .refusal ≡ bendC c .refusal ⌝ }
     ensures value { λ r. ⌜ r .value ≡ bendC c .value ⌝ }
 {
@@ -168,7 +168,7 @@ fn bend_of(c: Course) -> CheckedNumber
     }
 }
 
-fn meet_line(c: Course, deviation: f64) -> CheckedCount
+fn meet_line(c: MeetCurve, deviation: f64) -> CheckedCount
     ensures refusal { λ r. ⌜ r .refusal ≡ meetLineC c deviation .refusal ⌝ }
     ensures value { λ r. ⌜ r .value ≡ meetLineC c deviation .value ⌝ }
 {
@@ -183,21 +183,21 @@ fn meet_line(c: Course, deviation: f64) -> CheckedCount
 }
 
 // Chords of a polyline through the piece in its development, each at most `deviation` off it.
-pub fn polyline_of(r: Run, deviation: f64) -> CheckedCount
+pub fn polyline_of(r: PieceCurve, deviation: f64) -> CheckedCount
     ensures refusal { λ o. ⌜ o .refusal ≡ polylineC r deviation .refusal ⌝ }
     ensures value { λ o. ⌜ o .value ≡ polylineC r deviation .value ⌝ }
 {
     let w = r.way;
     match w {
-        Way::Straight => CheckedCount {
+        CurveKind::Straight => CheckedCount {
             refusal: 0,
             value: 1,
         },
-        Way::Arc(_) => CheckedCount {
+        CurveKind::Arc(_) => CheckedCount {
             refusal: 0,
             value: 1,
         },
-        Way::Wave(v) => wave_line(v, r.from, r.to, r.neutral, deviation),
-        Way::Meet(c) => meet_line(c, deviation),
+        CurveKind::Wave(v) => wave_line(v, r.from, r.to, r.neutral, deviation),
+        CurveKind::Meet(c) => meet_line(c, deviation),
     }
 }

@@ -2,7 +2,7 @@
 ghost use mathlib.Core.Path.{_≡_};
 ghost use Rattle.checked.specs.Checked.{first, nine};
 ghost use Rattle.vectors.specs.Vectors.{plane};
-ghost use Rattle.piece_curves.specs.Courses.{placedC};
+ghost use Rattle.piece_curves.specs.MeetCurves.{placedC};
 ghost use Rattle.piece_lengths.specs.Measures.{distanceC, placeC, longerC, furtherC, tracedC, waveRun, followed, segmentC, arcC, measureC};
 use checked::CheckedNumber;
 use checked::earlier;
@@ -10,12 +10,12 @@ use checked::note;
 use float_bits::fabs;
 use libm::atan2::atan2;
 use libm::roots::hypot;
-use piece_curves::Run;
-use piece_curves::Way;
+use piece_curves::CurveKind;
+use piece_curves::PieceCurve;
 use piece_curves::meet_curves;
 use piece_curves::meet_curves::CheckedPlace;
-use piece_curves::meet_curves::Course;
-use piece_curves::meet_curves::Pace;
+use piece_curves::meet_curves::MeetCurve;
+use piece_curves::meet_curves::MeetRates;
 use piece_curves::meet_curves::Place;
 use piece_curves::meet_curves::motion;
 use piece_curves::meet_curves::placed;
@@ -65,7 +65,7 @@ fn wave_place(w: Wave, from: Vec2, to: Vec2, n: f64, k: u16) -> CheckedPlace
 }
 
 // The place at t along a meet by its motion m there. The course itself would be copied at each chord.
-fn meet_place(c: Course, t: f64, m: Pace) -> CheckedPlace
+fn meet_place(c: MeetCurve, t: f64, m: MeetRates) -> CheckedPlace
     ensures refusal { λ o. ⌜ o .refusal ≡ first (nine t) (first (m .ru) (first (m .rv) (first (m .rq) (placedC c t (m .q) .refusal)))) ⌝ }
     ensures value { λ o. ⌜ o .value ≡ record { p = placedC c t (m .q) .value; d = plane (m .u) (m .v) } ⌝ }
 {
@@ -149,7 +149,7 @@ fn wave_traced(from: Vec2, to: Vec2, n: f64, w: Wave) -> CheckedMeasure
 }
 
 // A meet as 32 chords, likewise.
-fn meet_traced(c: Course) -> CheckedMeasure
+fn meet_traced(c: MeetCurve) -> CheckedMeasure
     ensures refusal { λ o. ⌜ o .refusal ≡ tracedC (followed c) .refusal ⌝ }
     ensures value { λ o. ⌜ o .value ≡ tracedC (followed c) .value ⌝ }
 {
@@ -221,15 +221,15 @@ pub fn arc_measure(a: ProfileArc, from: Vec2, to: Vec2) -> CheckedMeasure
     }
 }
 
-pub fn measure_of(r: Run) -> CheckedMeasure
+pub fn measure_of(r: PieceCurve) -> CheckedMeasure
     ensures refusal { λ o. ⌜ o .refusal ≡ measureC r .refusal ⌝ }
     ensures value { λ o. ⌜ o .value ≡ measureC r .value ⌝ }
 {
     let w = r.way;
     match w {
-        Way::Straight => segment(r.from, r.to),
-        Way::Arc(a) => arc_measure(a, r.from, r.to),
-        Way::Wave(v) => wave_traced(r.from, r.to, r.neutral, v),
-        Way::Meet(c) => meet_traced(c),
+        CurveKind::Straight => segment(r.from, r.to),
+        CurveKind::Arc(a) => arc_measure(a, r.from, r.to),
+        CurveKind::Wave(v) => wave_traced(r.from, r.to, r.neutral, v),
+        CurveKind::Meet(c) => meet_traced(c),
     }
 }

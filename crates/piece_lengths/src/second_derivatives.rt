@@ -1,7 +1,7 @@
 // The second derivative of a piece of a development at t, on numbers of any size.
 ghost use mathlib.Core.Path.{_≡_};
-ghost use Rattle.meets.specs.Pipes.{reachC};
-ghost use Rattle.piece_lengths.specs.Bends.{levelC, levelAtC, levelSlopeC, levelBendC, heightBendC, angleBendC, bendUC, bendVC, meetC, waveC, arcC, secondC};
+ghost use Rattle.meets.specs.Quadratic.{intersectionC};
+ghost use Rattle.piece_lengths.specs.SecondDerivatives.{levelC, levelAtC, levelSlopeC, levelBendC, heightBendC, angleBendC, bendUC, bendVC, meetC, waveC, arcC, secondC};
 use checked::CheckedNumber;
 use checked::earlier;
 use checked::note;
@@ -10,15 +10,15 @@ use libm::sincos::sincos;
 use meets::Turn;
 use meets::generatrix::bend_at;
 use meets::generatrix::speed_at;
-use meets::quadratic::CheckedReached;
+use meets::quadratic::CheckedIntersection;
+use meets::quadratic::Intersection;
 use meets::quadratic::Pipe;
 use meets::quadratic::Quadratic;
-use meets::quadratic::Reached;
 use meets::quadratic::lesser;
-use piece_curves::Run;
-use piece_curves::Way;
+use piece_curves::CurveKind;
+use piece_curves::PieceCurve;
 use piece_curves::meet_curves::CheckedVec2;
-use piece_curves::meet_curves::Course;
+use piece_curves::meet_curves::MeetCurve;
 use piece_curves::meet_curves::angle;
 use piece_curves::meet_curves::rate;
 use piece_curves::points::arc_point;
@@ -34,7 +34,7 @@ use waves::Wave;
 use waves::values;
 
 // The second derivatives of u along a hole, and of v, each with its refusal.
-struct Curl {
+struct MeetSeconds {
     u: f64,
     ru: u8,
     v: f64,
@@ -56,9 +56,9 @@ struct Levelled {
 
 // `reach` of `pipes` once more: with one call it becomes a part of `levels`, and the pipe is not
 // copied.
-fn reach_here(p: Pipe, phi: f64) -> CheckedReached
-    ensures refusal { λ r. ⌜ r .refusal ≡ reachC p phi .refusal ⌝ }
-    ensures value { λ r. ⌜ r .value ≡ reachC p phi .value ⌝ }
+fn reach_here(p: Pipe, phi: f64) -> CheckedIntersection
+    ensures refusal { λ r. ⌜ r .refusal ≡ intersectionC p phi .refusal ⌝ }
+    ensures value { λ r. ⌜ r .value ≡ intersectionC p phi .value ⌝ }
 {
     let x = sincos(phi);
     let around = plus(times(p.e1, x.cos), times(p.e2, x.sin));
@@ -75,9 +75,9 @@ fn reach_here(p: Pipe, phi: f64) -> CheckedReached
         cc: cc,
         root: root,
     });
-    CheckedReached {
+    CheckedIntersection {
         refusal: earlier(note(x.refusal, root), t.refusal),
-        value: Reached {
+        value: Intersection {
             s: x.sin,
             c: x.cos,
             around: around,
@@ -156,7 +156,7 @@ fn levels(p: Pipe, phi: f64) -> Levelled
     }
 }
 
-fn curled(c: Course, t: f64) -> Curl
+fn meet_seconds(c: MeetCurve, t: f64) -> MeetSeconds
     ensures ru { λ r. ⌜ r .ru ≡ bendUC c t .refusal ⌝ }
     ensures u { λ r. ⌜ r .u ≡ bendUC c t .value ⌝ }
     ensures rv { λ r. ⌜ r .rv ≡ bendVC c t .refusal ⌝ }
@@ -171,7 +171,7 @@ fn curled(c: Course, t: f64) -> Curl
     let v = l.z2 * k * k;
     let r = note(note(0, k), phi);
     let rq = earlier(l.r0, earlier(l.r1, earlier(l.r2, th.refusal)));
-    Curl {
+    MeetSeconds {
         u: u,
         ru: note(earlier(r, rq), u),
         v: v,
@@ -180,11 +180,11 @@ fn curled(c: Course, t: f64) -> Curl
 }
 
 // The second derivative along a meet.
-pub fn meet_second(c: Course, t: f64) -> CheckedVec2
+pub fn meet_second(c: MeetCurve, t: f64) -> CheckedVec2
     ensures refusal { λ r. ⌜ r .refusal ≡ meetC c t .refusal ⌝ }
     ensures value { λ r. ⌜ r .value ≡ meetC c t .value ⌝ }
 {
-    let b = curled(c, t);
+    let b = meet_seconds(c, t);
     let k = c.turn;
     match k {
         Turn::Without => CheckedVec2 {
@@ -227,18 +227,18 @@ fn arc_second(a: ProfileArc, from: Vec2, to: Vec2, t: f64) -> CheckedVec2
 }
 
 // The second derivative of the point at t.
-pub fn second(r: Run, t: f64) -> CheckedVec2
+pub fn second(r: PieceCurve, t: f64) -> CheckedVec2
     ensures refusal { λ o. ⌜ o .refusal ≡ secondC r t .refusal ⌝ }
     ensures value { λ o. ⌜ o .value ≡ secondC r t .value ⌝ }
 {
     let w = r.way;
     match w {
-        Way::Straight => CheckedVec2 {
+        CurveKind::Straight => CheckedVec2 {
             refusal: 0,
             value: Vec2 { x: 0.0, y: 0.0 },
         },
-        Way::Arc(a) => arc_second(a, r.from, r.to, t),
-        Way::Wave(v) => wave_second(v, r.from, r.to, r.neutral, t),
-        Way::Meet(c) => meet_second(c, t),
+        CurveKind::Arc(a) => arc_second(a, r.from, r.to, t),
+        CurveKind::Wave(v) => wave_second(v, r.from, r.to, r.neutral, t),
+        CurveKind::Meet(c) => meet_second(c, t),
     }
 }

@@ -3,13 +3,13 @@ use mathlib.Core.Bool.{cond}
 use lib.Ieee.{Float, le, neg}
 use Rattle.checked.specs.Checked.{Checked, first, _>>=_, given, finite, num, _⊖_, _⊗_, _⊘_}
 use Rattle.checked.specs.Numbers.{zero, half}
-use Rattle.libm.specs.Circle.{sincosC}
+use Rattle.libm.specs.Sincos.{sincosC}
 use Rattle.directions.specs.Directions.{acrossC}
 use Rattle.vectors.specs.declared.Vec2.{Vec2}
 use Rattle.vectors.specs.declared.Vec3.{Vec3}
 use Rattle.vectors.specs.Vectors.{plane, space, vec, _⊟_, _⊠_, _⊡_}
-use Rattle.piece_curves.specs.declared.meet_curves.Course.{Course}
-use Rattle.piece_curves.specs.Courses as courses
+use Rattle.piece_curves.specs.declared.meet_curves.MeetCurve.{MeetCurve}
+use Rattle.piece_curves.specs.MeetCurves as courses
 
 -- The gradient at p of half the square of the distance from the pipe's axis, of the point at p on
 -- the cylinder of radius `own`.
@@ -31,7 +31,7 @@ unfoldable pub facing : Vec2 → Float → Vec2
 facing g side = cond (le zero side) (plane (neg (g .y)) (g .x)) (plane (neg (neg (g .y))) (neg (g .x)))
 
 -- which way, by the piece at its middle: its place and derivative there
-unfoldable pub sideC : Vec3 → Vec3 → Float → Course → Checked Float
+unfoldable pub sideC : Vec3 → Vec3 → Float → MeetCurve → Checked Float
 sideC origin axis own c = do
   mid ← courses.atC c half
   g ← gradientC origin axis own (c .neutral) (mid .p)

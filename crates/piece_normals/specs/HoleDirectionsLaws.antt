@@ -3,7 +3,7 @@ use mathlib.Core.Path.{_≡_}
 use lib.Ieee.{Float, binary64, mul, div}
 use Rattle.checked.specs.Checked.{Checked, first, nine}
 use Rattle.checked.specs.Laws.{rules as checked-rules}
-use Rattle.libm.specs.Circle.{sincosC, sinesOrZeros}
+use Rattle.libm.specs.Sincos.{sincosC, sinesOrZeros}
 use Rattle.directions.specs.Laws.{rules as directions-rules}
 use Rattle.vectors.specs.declared.Vec2.{Vec2}
 use Rattle.vectors.specs.declared.Vec3.{Vec3}

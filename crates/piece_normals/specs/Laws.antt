@@ -9,7 +9,7 @@ use Rattle.vectors.specs.declared.Vec3.{Vec3}
 use Rattle.vectors.specs.Vectors.{nines, crossC}
 use Rattle.vectors.specs.Laws.{rules as vectors-rules}
 use Rattle.directions.specs.Directions.{unitC}
-use Rattle.developments.specs.Rolls.{radialC, alongC}
+use Rattle.developments.specs.Formulas.{radialAtC, alongC}
 use Rattle.developments.specs.Laws.{along-refusal}
 use Rattle.piece_normals.specs.Normals.{normalC}
 
@@ -21,8 +21,8 @@ again (suc a) b = refl
 -- the radial is met twice and noted once; the cross product tells of both vectors
 module _ (axis start : Vec3) (n : Float) (p d : Vec2) (r : Float) where
   abbrev pub crossed : Vec3
-  crossed = crossC (radialC axis start n (p .x) .value) (alongC axis start n p d r .value) .value
+  crossed = crossC (radialAtC axis start n (p .x) .value) (alongC axis start n p d r .value) .value
 
-pub normal-refusal : (axis start : Vec3) (n : Float) (p d : Vec2) (r : Float) → normalC axis start n p d r .refusal ≡ first (radialC axis start n (p .x) .refusal) (first (nines (crossed axis start n p d r)) (unitC (crossed axis start n p d r) .refusal))
+pub normal-refusal : (axis start : Vec3) (n : Float) (p d : Vec2) (r : Float) → normalC axis start n p d r .refusal ≡ first (radialAtC axis start n (p .x) .refusal) (first (nines (crossed axis start n p d r)) (unitC (crossed axis start n p d r) .refusal))
 unfolding normalC
 normal-refusal axis start n p d r = simp (along-refusal, again, checked-rules, vectors-rules)

@@ -15,8 +15,8 @@ use Rattle.meets.specs.declared.Meet.{Meet}
 use Rattle.meets.specs.Meets.{pipeC}
 use Rattle.traces.specs.declared.Trace.{Trace}
 use Rattle.traces.specs.declared.Trace.the-variants as trace
-use Rattle.piece_curves.specs.Courses.{courseOf, slopeUC, slopeVC}
-use Rattle.developments.specs.Rolls.{radialC, alongC}
+use Rattle.piece_curves.specs.MeetCurves.{meetCurveOf, slopeUC, slopeVC}
+use Rattle.developments.specs.Formulas.{radialAtC, alongC}
 use Rattle.piece_curves.specs.declared.PieceArc.{PieceArc}
 use Rattle.piece_curves.specs.declared.PieceArc.the-variants as piece-arc
 use Rattle.piece_curves.specs.declared.PieceTrace.{PieceTrace}
@@ -58,8 +58,8 @@ ownC m from to n p = do
   du ← num (to .x) ⊖ num (from .x)
   t ← (num (p .x) ⊖ num (from .x)) ⊘ num du
   pipe ← pipeC m n
-  x ← slopeUC (courseOf from to n m pipe) t
-  y ← slopeVC (courseOf from to n m pipe) t
+  x ← slopeUC (meetCurveOf from to n m pipe) t
+  y ← slopeVC (meetCurveOf from to n m pipe) t
   given (plane x y)
 
 -- with it: the gradient at p is worked out first, then the pipe and what is read at the piece's
@@ -68,7 +68,7 @@ unfoldable pub holeC : Meet → Vec2 → Vec2 → Float → Vec2 → Checked Vec
 holeC m from to n p = do
   g ← gradientC (m .origin) (m .axis) (m .own) n p
   pipe ← pipeC m n
-  s ← sideC (m .origin) (m .axis) (m .own) (courseOf from to n m pipe)
+  s ← sideC (m .origin) (m .axis) (m .own) (meetCurveOf from to n m pipe)
   given (facing g s)
 
 -- along a meet, where `turn` is known
@@ -98,7 +98,7 @@ directionC piece-arc.Without trace' from to n p = withoutArcC trace' from to n p
 -- ---- at r from the axis, where the piece has the direction d
 unfoldable pub normalC : Vec3 → Vec3 → Float → Vec2 → Vec2 → Float → Checked Vec3
 normalC axis start n p d r = do
-  a ← radialC axis start n (p .x)
+  a ← radialAtC axis start n (p .x)
   b ← alongC axis start n p d r
   c ← vec a ⨯ vec b
   unitC c

@@ -9,7 +9,7 @@ use directions::formula::across;
 use libm::sincos::sincos;
 use piece_curves::meet_curves;
 use piece_curves::meet_curves::CheckedVec2;
-use piece_curves::meet_curves::Course;
+use piece_curves::meet_curves::MeetCurve;
 use vectors::Vec2;
 use vectors::Vec3;
 use vectors::formula::dot;
@@ -54,7 +54,7 @@ pub fn facing(g: Vec2, side: f64) -> Vec2
 }
 
 // Which way the edge runs, by the piece at its middle.
-pub fn side(origin: Vec3, axis: Vec3, own: f64, c: Course) -> CheckedNumber
+pub fn side(origin: Vec3, axis: Vec3, own: f64, c: MeetCurve) -> CheckedNumber
     ensures refusal { λ r. ⌜ r .refusal ≡ sideC origin axis own c .refusal ⌝ }
     ensures value { λ r. ⌜ r .value ≡ sideC origin axis own c .value ⌝ }
 {

@@ -15,7 +15,7 @@ use meets::formula::pipe;
 use piece_curves::PieceArc;
 use piece_curves::PieceTrace;
 use piece_curves::meet_curves::CheckedVec2;
-use piece_curves::meet_curves::Course;
+use piece_curves::meet_curves::MeetCurve;
 use piece_curves::meet_curves::motion;
 use profile_arcs::ProfileArc;
 use traces::Trace;
@@ -89,7 +89,7 @@ fn own_direction(m: Meet, from: Vec2, to: Vec2, n: f64, p: Vec2) -> CheckedVec2
     let x = pipe(m, n);
     let k = m.turn;
     let v = x.value;
-    let c = Course {
+    let c = MeetCurve {
         from: from.x,
         to: to.x,
         neutral: n,
@@ -117,7 +117,7 @@ fn hole_direction(m: Meet, from: Vec2, to: Vec2, n: f64, p: Vec2) -> CheckedVec2
     let x = pipe(m, n);
     let k = m.turn;
     let v = x.value;
-    let c = Course {
+    let c = MeetCurve {
         from: from.x,
         to: to.x,
         neutral: n,

@@ -6,7 +6,7 @@ use Rattle.checked.specs.Numbers.{float}
 use Rattle.vectors.specs.declared.Vec3.{Vec3}
 use Rattle.rows.specs.Rows.{upTo, fits}
 use Rattle.piece_curves.specs.declared.space_points.Rolling.{Rolling}
-use Rattle.piece_curves.specs.Spots.{rolledC}
+use Rattle.piece_curves.specs.SpacePoints.{rolledC}
 
 -- the point k of a piece that is cut into n chords
 unfoldable pub innerC : Rolling → ℕ → ℕ → Checked Vec3

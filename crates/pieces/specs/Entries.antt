@@ -15,7 +15,7 @@ use Rattle.piece_boxes.specs.declared.brackets.FlatBox.{FlatBox}
 use Rattle.piece_lengths.specs.declared.measures.Measure.{Measure}
 use Rattle.piece_lengths.specs.Measures.{measureC}
 use Rattle.piece_curves.specs.Points.{atC}
-use Rattle.piece_lengths.specs.Bends.{secondC}
+use Rattle.piece_lengths.specs.SecondDerivatives.{secondC}
 use Rattle.piece_boxes.specs.CurveBoxes.{boxC}
 use Rattle.piece_lengths.specs.Counts.{quadratureC, chordsC, polylineC}
 use Rattle.pieces.specs.Tests.{arcWithin, followedWithin, both}

@@ -3,14 +3,14 @@ use lib.Ieee.{Float}
 use Rattle.checked.specs.Checked.{Checked, first, _>>=_}
 use Rattle.vectors.specs.declared.Vec2.{Vec2}
 use Rattle.vectors.specs.declared.Vec3.{Vec3}
-use Rattle.piece_curves.specs.declared.Run.{Run}
-use Rattle.piece_curves.specs.Runs as runs
+use Rattle.piece_curves.specs.declared.PieceCurve.{PieceCurve}
+use Rattle.piece_curves.specs.PieceCurves as runs
 use Rattle.piece_normals.specs.Normals as normals
 use Rattle.pieces.specs.Reversals.{arcBack, traceBack}
 use Rattle.pieces.specs.declared.Rolled.{Rolled}
 
-unfoldable pub runC : Rolled → Checked Run
-runC p = runs.runC (p .from) (p .to) (p .dev .neutral) (p .arc) (p .trace)
+unfoldable pub runC : Rolled → Checked PieceCurve
+runC p = runs.curveC (p .from) (p .to) (p .dev .neutral) (p .arc) (p .trace)
 
 -- ends exchanged, the arc's sense turned, the two angles of a hole exchanged; all else as it is
 unfoldable pub back : Rolled → Rolled

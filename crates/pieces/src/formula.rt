@@ -3,8 +3,8 @@
 ghost use mathlib.Core.Path.{_≡_};
 ghost use Rattle.checked.specs.Checked.{first};
 ghost use Rattle.meets.specs.Meets.{pipeC};
-ghost use Rattle.piece_curves.specs.Courses as courses;
-ghost use Rattle.piece_curves.specs.Runs as runs;
+ghost use Rattle.piece_curves.specs.MeetCurves as courses;
+ghost use Rattle.piece_curves.specs.PieceCurves as runs;
 ghost use Rattle.piece_curves.specs.Points.{atC};
 ghost use Rattle.piece_lengths.specs.Measures.{measureC};
 ghost use Rattle.pieces.specs.Pieces.{runC, back, normalC};
@@ -14,18 +14,18 @@ use crate::parts::trace_back;
 use checked::earlier;
 use meets::Meet;
 use meets::formula::pipe;
-use piece_curves::CheckedRun;
+use piece_curves::CheckedPieceCurve;
 use piece_curves::PieceArc;
 use piece_curves::PieceTrace;
+use piece_curves::curve_of;
 use piece_curves::meet_curves::CheckedPlace;
-use piece_curves::meet_curves::Course;
+use piece_curves::meet_curves::MeetCurve;
 use piece_curves::meet_curves::Place;
 use piece_curves::meet_curves::motion;
 use piece_curves::meet_curves::placed;
 use piece_curves::points::arc_at;
 use piece_curves::points::straight_at;
 use piece_curves::points::wave_at;
-use piece_curves::run_of;
 use piece_lengths::measures::CheckedMeasure;
 use piece_lengths::measures::arc_measure;
 use piece_lengths::measures::measure_of;
@@ -37,13 +37,13 @@ use vectors::CheckedVec3;
 use vectors::Vec2;
 
 // What the piece follows, ready to be followed.
-pub fn run(p: Rolled) -> CheckedRun
+pub fn run(p: Rolled) -> CheckedPieceCurve
     ensures refusal { λ r. ⌜ r .refusal ≡ runC p .refusal ⌝ }
     ensures value { λ r. ⌜ r .value ≡ runC p .value ⌝ }
 {
     let a = p.arc;
     let t = p.trace;
-    run_of(p.from, p.to, p.dev.neutral, a, t)
+    curve_of(p.from, p.to, p.dev.neutral, a, t)
 }
 
 // The piece run the other way.
@@ -85,13 +85,13 @@ pub fn normal(p: Rolled, q: Vec2, r: f64) -> CheckedVec3
 
 // ---- the point at t, and its derivative
 fn meet_at(from: Vec2, to: Vec2, n: f64, m: Meet, t: f64) -> CheckedPlace
-    ensures refusal { λ o. ⌜ o .refusal ≡ first (pipeC m n .refusal) (courses.atC (courses.courseOf from to n m (pipeC m n .value)) t .refusal) ⌝ }
-    ensures value { λ o. ⌜ o .value ≡ courses.atC (courses.courseOf from to n m (pipeC m n .value)) t .value ⌝ }
+    ensures refusal { λ o. ⌜ o .refusal ≡ first (pipeC m n .refusal) (courses.atC (courses.meetCurveOf from to n m (pipeC m n .value)) t .refusal) ⌝ }
+    ensures value { λ o. ⌜ o .value ≡ courses.atC (courses.meetCurveOf from to n m (pipeC m n .value)) t .value ⌝ }
 {
     let x = pipe(m, n);
     let p = x.value;
     let k = m.turn;
-    let c = Course {
+    let c = MeetCurve {
         from: from.x,
         to: to.x,
         neutral: n,
@@ -114,8 +114,8 @@ fn meet_at(from: Vec2, to: Vec2, n: f64, m: Meet, t: f64) -> CheckedPlace
 }
 
 fn traced_at(from: Vec2, to: Vec2, n: f64, f: Trace, t: f64) -> CheckedPlace
-    ensures refusal { λ o. ⌜ o .refusal ≡ first (runs.tracedC from to n f .refusal) (atC (runs.runBy from to n (runs.tracedC from to n f .value)) t .refusal) ⌝ }
-    ensures value { λ o. ⌜ o .value ≡ atC (runs.runBy from to n (runs.tracedC from to n f .value)) t .value ⌝ }
+    ensures refusal { λ o. ⌜ o .refusal ≡ first (runs.tracedC from to n f .refusal) (atC (runs.curveBy from to n (runs.tracedC from to n f .value)) t .refusal) ⌝ }
+    ensures value { λ o. ⌜ o .value ≡ atC (runs.curveBy from to n (runs.tracedC from to n f .value)) t .value ⌝ }
 {
     match f {
         Trace::Wave(w) => wave_at(w, from, to, n, t),
@@ -126,8 +126,8 @@ fn traced_at(from: Vec2, to: Vec2, n: f64, f: Trace, t: f64) -> CheckedPlace
 // What a call gave is taken apart: as a whole it would go through memory, its refusal's byte read
 // with the seven beside it.
 fn untraced_at(from: Vec2, to: Vec2, n: f64, a: PieceArc, t: f64) -> CheckedPlace
-    ensures refusal { λ o. ⌜ o .refusal ≡ atC (runs.runBy from to n (runs.untraced a)) t .refusal ⌝ }
-    ensures value { λ o. ⌜ o .value ≡ atC (runs.runBy from to n (runs.untraced a)) t .value ⌝ }
+    ensures refusal { λ o. ⌜ o .refusal ≡ atC (runs.curveBy from to n (runs.untraced a)) t .refusal ⌝ }
+    ensures value { λ o. ⌜ o .value ≡ atC (runs.curveBy from to n (runs.untraced a)) t .value ⌝ }
 {
     match a {
         PieceArc::Without => straight_at(from, to, t),
@@ -156,8 +156,8 @@ pub fn at(p: Rolled, t: f64) -> CheckedPlace
 
 // ---- the radius, the turn and the length
 fn untraced_measure(from: Vec2, to: Vec2, n: f64, a: PieceArc) -> CheckedMeasure
-    ensures refusal { λ o. ⌜ o .refusal ≡ measureC (runs.runBy from to n (runs.untraced a)) .refusal ⌝ }
-    ensures value { λ o. ⌜ o .value ≡ measureC (runs.runBy from to n (runs.untraced a)) .value ⌝ }
+    ensures refusal { λ o. ⌜ o .refusal ≡ measureC (runs.curveBy from to n (runs.untraced a)) .refusal ⌝ }
+    ensures value { λ o. ⌜ o .value ≡ measureC (runs.curveBy from to n (runs.untraced a)) .value ⌝ }
 {
     match a {
         PieceArc::Without => segment(from, to),

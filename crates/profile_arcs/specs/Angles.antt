@@ -3,7 +3,7 @@ use mathlib.Core.Bool.{cond}
 use lib.Ieee.{Float, binary64, le, ofBits}
 use Rattle.checked.specs.Checked.{Checked, first, _>>=_, given, finite, num, _⊕_, _⊖_}
 use Rattle.checked.specs.Numbers.{zero, tau}
-use Rattle.libm.specs.Arctangent.{atan2}
+use Rattle.libm.specs.Atan2.{atan2}
 
 -- the angle of the direction (x, y), in [−π, π] (`atan2-range` of crates/ranges)
 abbrev pub atan2C : Checked Float → Checked Float → Checked Float

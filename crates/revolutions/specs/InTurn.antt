@@ -27,8 +27,8 @@ use Rattle.checked.specs.Lists.{foldListC, list-sound, list-once}
 use Rattle.integrals.specs.declared.integrands.Revolved.{Revolved}
 use Rattle.integrals.specs.Integrands.{revolvedC}
 use Rattle.integrals.specs.Sound.{path-sound}
-use Rattle.face_paths.specs.ArcPaths.{courseAt, arcPathC}
-use Rattle.face_paths.specs.PiecePaths.{driftAt}
+use Rattle.face_paths.specs.ArcPaths.{arcPathAt, arcPathC}
+use Rattle.face_paths.specs.PiecePaths.{piecePathAt}
 use Rattle.face_paths.specs.Paths.{piecePathC}
 use Rattle.revolutions.specs.Closings.{closeC, closeDue}
 use Rattle.revolutions.specs.Revolutions.{Path, arc, piece, pathWithin, pathNeutral, pathSingle, liesOn, pathC, sumsC, revolutionC, every, tests, faceWithin, revolutionDue, openDue, addC, addDue, addedInTurn, inTurn}
@@ -36,8 +36,8 @@ use Rattle.revolutions.specs.Revolutions.{Path, arc, piece, pathWithin, 
 -- ---- sums stay finite
 each-sound : (v : Revolved) (p : Path) (s : Integrals) → pathC v p s .refusal ≡ 0 → FiniteSums s → FiniteSums (pathC v p s .value)
 unfolding pathC arcPathC piecePathC finiteSums
-each-sound v (arc a from to) s e g = path-sound v (courseAt _) _ (s .surface) (first-none _ _ (first-none _ _ e .1) .0) g
-each-sound v (piece p) s e g = path-sound v (driftAt _) _ (s .surface) (first-none _ _ (first-none _ _ (first-none _ _ e .1) .1) .0) g
+each-sound v (arc a from to) s e g = path-sound v (arcPathAt _) _ (s .surface) (first-none _ _ (first-none _ _ e .1) .0) g
+each-sound v (piece p) s e g = path-sound v (piecePathAt _) _ (s .surface) (first-none _ _ (first-none _ _ (first-none _ _ e .1) .1) .0) g
 
 add-sound : (cone : Cone) (o : Vec3) (p : Path) (s : Integrals) → addC cone o p s .refusal ≡ 0 → FiniteSums s → FiniteSums (addC cone o p s .value)
 unfolding addC

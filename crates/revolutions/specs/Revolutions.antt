@@ -12,7 +12,7 @@ use Rattle.checked.specs.Numbers.{zero}
 use Rattle.vectors.specs.declared.Vec3.{Vec3}
 use Rattle.vectors.specs.Vectors.{within3}
 use Rattle.arcs.specs.declared.Arc.{Arc}
-use Rattle.arcs.specs.Sweeps.{endsWithin}
+use Rattle.arcs.specs.Sweep.{endsWithin}
 use Rattle.pieces.specs.declared.Rolled.{Rolled}
 use Rattle.pieces.specs.Tests.{both}
 use Rattle.pieces.specs.Entries.{pieceWithin}

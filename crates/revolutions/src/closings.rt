@@ -13,7 +13,7 @@ use cones::Cone;
 use integrals::Added;
 use integrals::CheckedIntegrals;
 use integrals::Integrals;
-use integrals::Outcome;
+use integrals::SumsOutcome;
 use integrals::SurfaceIntegrals;
 use integrals::settle;
 use vectors::formula::plus;
@@ -66,7 +66,7 @@ pub fn closed(acc: Integrals, cone: Cone, sums: Integrals) -> Added
 }
 
 // What is left of a body's sums after the call, and the number that it answers.
-fn outcome(acc: Integrals, cone: Cone, sums: Integrals) -> Outcome
+fn outcome(acc: Integrals, cone: Cone, sums: Integrals) -> SumsOutcome
     ensures { λ r. ⌜ r ≡ outcome acc (closeDue cone sums acc) ⌝ }
 {
     integrals::after(acc, closed(acc, cone, sums))

@@ -1,4 +1,4 @@
+pub mod Circles
 pub mod CirclesLaws
 pub mod Laws
-pub mod Rims
 pub mod Rows

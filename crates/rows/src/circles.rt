@@ -5,7 +5,7 @@ ghost use Prim.Native.Nat.{_*_, _≤_};
 ghost use lib.ListN.{length, drop};
 ghost use Rattle.rows.specs.Rows.{upTo, flat, rowAfter, pointsDue, allDue};
 ghost use Rattle.checked.specs.Answers.{numberOf};
-ghost use Rattle.rows.specs.Rims.{rimC, rimAtC};
+ghost use Rattle.rows.specs.Circles.{circleC, circleAtC};
 use crate::KEPT;
 use crate::copy_part;
 use crate::put;
@@ -20,16 +20,16 @@ use vectors::formula::times;
 
 // A circle and where on it the points start: its centre, the vector from there to the start, and
 // that vector a quarter turn on.
-pub struct Rim {
+pub struct Circle {
     pub center: Vec3,
     pub start: Vec3,
     pub quarter: Vec3,
 }
 
 // The point at the angle t.
-pub fn point(rim: Rim, t: f64) -> CheckedVec3
-    ensures refusal { λ r. ⌜ r .refusal ≡ rimC rim t .refusal ⌝ }
-    ensures value { λ r. ⌜ r .value ≡ rimC rim t .value ⌝ }
+pub fn point(rim: Circle, t: f64) -> CheckedVec3
+    ensures refusal { λ r. ⌜ r .refusal ≡ circleC rim t .refusal ⌝ }
+    ensures value { λ r. ⌜ r .value ≡ circleC rim t .value ⌝ }
 {
     let s = sincos(t);
     let p = plus(
@@ -43,16 +43,16 @@ pub fn point(rim: Rim, t: f64) -> CheckedVec3
 }
 
 // The point k of n on a turn.
-fn point_at(rim: Rim, turn: f64, n: u16, k: u16) -> CheckedVec3
-    ensures refusal { λ r. ⌜ r .refusal ≡ rimAtC rim turn n k .refusal ⌝ }
-    ensures value { λ r. ⌜ r .value ≡ rimAtC rim turn n k .value ⌝ }
+fn point_at(rim: Circle, turn: f64, n: u16, k: u16) -> CheckedVec3
+    ensures refusal { λ r. ⌜ r .refusal ≡ circleAtC rim turn n k .refusal ⌝ }
+    ensures value { λ r. ⌜ r .value ≡ circleAtC rim turn n k .value ⌝ }
 {
     point(rim, turn * (k as f64) / (n as f64))
 }
 
 // The refusal that the points 1 to m meet first.
-fn noted_all(rim: Rim, turn: f64, n: u16, m: u16) -> u8
-    ensures { λ r. ⌜ r ≡ upTo (rimAtC rim turn n) m .refusal ⌝ }
+fn noted_all(rim: Circle, turn: f64, n: u16, m: u16) -> u8
+    ensures { λ r. ⌜ r ≡ upTo (circleAtC rim turn n) m .refusal ⌝ }
 {
     let mut r: u8 = 0;
     let mut i: u16 = 0;
@@ -65,10 +65,10 @@ fn noted_all(rim: Rim, turn: f64, n: u16, m: u16) -> u8
 }
 
 // The points 1 to m, worked out into the start of a buffer, and the refusal that they meet first.
-fn work_out(buf: &mut [f64], rim: Rim, turn: f64, n: u16, m: u16) -> u8
+fn work_out(buf: &mut [f64], rim: Circle, turn: f64, n: u16, m: u16) -> u8
     requires { ⌜ 3 * m ≤ length (now buf) ⌝ }
-    ensures refusal { λ r. ⌜ r ≡ upTo (rimAtC rim turn n) m .refusal ⌝ }
-    ensures points { λ _. ⌜ now (buf .exit) ≡ flat (upTo (rimAtC rim turn n) m .value) ++ drop (3 * m) (now (buf .entry)) ⌝ }
+    ensures refusal { λ r. ⌜ r ≡ upTo (circleAtC rim turn n) m .refusal ⌝ }
+    ensures points { λ _. ⌜ now (buf .exit) ≡ flat (upTo (circleAtC rim turn n) m .value) ++ drop (3 * m) (now (buf .entry)) ⌝ }
 {
     let mut r: u8 = 0;
     let mut i: u16 = 0;
@@ -82,10 +82,10 @@ fn work_out(buf: &mut [f64], rim: Rim, turn: f64, n: u16, m: u16) -> u8
     r
 }
 
-fn write_kept(row: &mut [f64], before: u8, rim: Rim, turn: f64, n: u16, m: u16) -> u8
+fn write_kept(row: &mut [f64], before: u8, rim: Circle, turn: f64, n: u16, m: u16) -> u8
     requires { ⌜ 3 * m ≤ length (now row) ⌝ ∗ ⌜ m ≤ 64 ⌝ }
-    ensures number { λ r. ⌜ r ≡ numberOf (pointsDue before (rimAtC rim turn n) m) ⌝ }
-    ensures row { λ _. ⌜ now (row .exit) ≡ rowAfter (pointsDue before (rimAtC rim turn n) m) (now (row .entry)) ⌝ }
+    ensures number { λ r. ⌜ r ≡ numberOf (pointsDue before (circleAtC rim turn n) m) ⌝ }
+    ensures row { λ _. ⌜ now (row .exit) ≡ rowAfter (pointsDue before (circleAtC rim turn n) m) (now (row .entry)) ⌝ }
 {
     let mut buf: [f64; 192] = [0.0; 192];
     let r = earlier(before, work_out(&mut buf, rim, turn, n, m));
@@ -97,10 +97,10 @@ fn write_kept(row: &mut [f64], before: u8, rim: Rim, turn: f64, n: u16, m: u16) 
 
 // Any number of points: they are worked out twice, since nothing is written before the last of them
 // is settled.
-fn write_twice(row: &mut [f64], before: u8, rim: Rim, turn: f64, n: u16, m: u16) -> u8
+fn write_twice(row: &mut [f64], before: u8, rim: Circle, turn: f64, n: u16, m: u16) -> u8
     requires { ⌜ 3 * m ≤ length (now row) ⌝ }
-    ensures number { λ r. ⌜ r ≡ numberOf (pointsDue before (rimAtC rim turn n) m) ⌝ }
-    ensures row { λ _. ⌜ now (row .exit) ≡ rowAfter (pointsDue before (rimAtC rim turn n) m) (now (row .entry)) ⌝ }
+    ensures number { λ r. ⌜ r ≡ numberOf (pointsDue before (circleAtC rim turn n) m) ⌝ }
+    ensures row { λ _. ⌜ now (row .exit) ≡ rowAfter (pointsDue before (circleAtC rim turn n) m) (now (row .entry)) ⌝ }
 {
     let r = earlier(before, noted_all(rim, turn, n, m));
     if r == 0 {
@@ -111,9 +111,9 @@ fn write_twice(row: &mut [f64], before: u8, rim: Rim, turn: f64, n: u16, m: u16)
 
 // Writes the points 1 to m of n on a turn and answers 0, or answers the refusal's number and leaves
 // the row as it was. `before`: the refusal that every point meets ahead of its own, if any.
-pub fn write(row: &mut [f64], before: u8, rim: Rim, turn: f64, n: u16, m: u16) -> u8
-    ensures number { λ r. ⌜ r ≡ numberOf (allDue before (rimAtC rim turn n) m (length (now (row .entry)))) ⌝ }
-    ensures row { λ _. ⌜ now (row .exit) ≡ rowAfter (allDue before (rimAtC rim turn n) m (length (now (row .entry)))) (now (row .entry)) ⌝ }
+pub fn write(row: &mut [f64], before: u8, rim: Circle, turn: f64, n: u16, m: u16) -> u8
+    ensures number { λ r. ⌜ r ≡ numberOf (allDue before (circleAtC rim turn n) m (length (now (row .entry)))) ⌝ }
+    ensures row { λ _. ⌜ now (row .exit) ≡ rowAfter (allDue before (circleAtC rim turn n) m (length (now (row .entry)))) (now (row .entry)) ⌝ }
 {
     if row.len() < 3 * (m as usize) {
         return ROW_TOO_SHORT;

@@ -7,10 +7,10 @@ use Rattle.checked.specs.Numbers.{half, three, four}
 use Rattle.vectors.specs.declared.Vec3.{Vec3}
 use Rattle.vectors.specs.Vectors.{nines, minusC, dotC}
 use Rattle.vectors.specs.Laws.{rules as vectors-rules}
-use Rattle.libm.specs.Circle.{sinC}
+use Rattle.libm.specs.Sincos.{sinC}
 use Rattle.arcs.specs.declared.Arc.{Arc}
-use Rattle.arcs.specs.Sweeps.{sweepC}
-use Rattle.arcs.specs.Spokes.{atC}
+use Rattle.arcs.specs.Sweep.{sweepC}
+use Rattle.arcs.specs.Points.{atC}
 use Rattle.integrals.specs.declared.SurfaceIntegrals.{SurfaceIntegrals}
 use Rattle.segments.specs.declared.Slice.{Slice}
 use Rattle.segments.specs.Segments.{sliceC, centroidC, addedC}

@@ -7,10 +7,10 @@ use Rattle.checked.specs.Checked.{Checked, _>>=_, given, num, _⊕_, _⊖_, _�
 use Rattle.checked.specs.Numbers.{half, two, three, four, zero}
 use Rattle.vectors.specs.declared.Vec3.{Vec3}
 use Rattle.vectors.specs.Vectors.{vec, _⊞_, _⊟_, _⊠_, _⊡_}
-use Rattle.libm.specs.Circle.{sinC}
+use Rattle.libm.specs.Sincos.{sinC}
 use Rattle.arcs.specs.declared.Arc.{Arc}
-use Rattle.arcs.specs.Sweeps.{sweepC}
-use Rattle.arcs.specs.Spokes.{atC}
+use Rattle.arcs.specs.Sweep.{sweepC}
+use Rattle.arcs.specs.Points.{atC}
 use Rattle.integrals.specs.declared.SurfaceIntegrals.{SurfaceIntegrals}
 use Rattle.integrals.specs.declared.Integrals.{Integrals}
 use Rattle.integrals.specs.Sums.{side}

@@ -7,7 +7,7 @@ use Rattle.directions.specs.Directions.{unitC}
 use Rattle.motions.specs.declared.Rigid.{Rigid}
 use Rattle.motions.specs.Axes as axes
 use Rattle.surfaces.specs.Normals.{cylinderC, coneC}
-use Rattle.developments.specs.Rolls.{unrollC}
+use Rattle.developments.specs.Formulas.{unrollC}
 use Rattle.cones.specs.declared.Cone.{Cone}
 use Rattle.pieces.specs.declared.Rolled.{Rolled}
 use Rattle.pieces.specs.Pieces as pieces

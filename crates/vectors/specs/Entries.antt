@@ -13,7 +13,7 @@ use Rattle.vectors.specs.declared.Vector.the-variants as vector
 use Rattle.vectors.specs.declared.Coordinates.{Coordinates}
 use Rattle.vectors.specs.declared.Index.{Index}
 use Rattle.vectors.specs.declared.Index.the-variants as index
-use Rattle.float_bits.specs.Words.{fabs}
+use Rattle.float_bits.specs.FloatBits.{fabs}
 
 -- ---- what the code's answers say
 abbrev pub vectorDue : Vector → Due Vec3

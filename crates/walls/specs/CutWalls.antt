@@ -6,19 +6,19 @@ use Rattle.vectors.specs.declared.Vec3.{Vec3}
 use Rattle.integrals.specs.declared.SurfaceIntegrals.{SurfaceIntegrals}
 use Rattle.integrals.specs.declared.Integrals.{Integrals}
 use Rattle.integrals.specs.Gauss.{alongC}
-use Rattle.piece_curves.specs.declared.Run.{Run}
+use Rattle.piece_curves.specs.declared.PieceCurve.{PieceCurve}
 use Rattle.pieces.specs.declared.Rolled.{Rolled}
 use Rattle.pieces.specs.Pieces.{runC}
 use Rattle.piece_lengths.specs.Counts.{quadratureC}
 use Rattle.piece_curves.specs.Points.{atC}
 use Rattle.walls.specs.declared.Strip.{Strip}
-use Rattle.walls.specs.Walls.{stripC, stationC}
+use Rattle.walls.specs.Walls.{stripC, nodeC}
 
 -- the sums after all radii at t, on a stretch of length h
-unfoldable pub stationAtC : Strip → Run → Float → Float → Float → SurfaceIntegrals → Checked SurfaceIntegrals
+unfoldable pub stationAtC : Strip → PieceCurve → Float → Float → Float → SurfaceIntegrals → Checked SurfaceIntegrals
 stationAtC v r h wt t s = do
   q ← atC r t
-  stationC v (q .p) (q .d) h wt s
+  nodeC v (q .p) (q .d) h wt s
 
 -- `wall`: the piece and its stretches, then the wall's radii, then the sums. But for an angle that
 -- is too large on the way to the count, all that is refused before the first station is refused by

@@ -7,9 +7,9 @@ use Rattle.vectors.specs.declared.Vec2.{Vec2}
 use Rattle.vectors.specs.declared.Vec3.{Vec3}
 use Rattle.vectors.specs.Vectors.{vec, _⊞_, _⊟_, _⊠_, _⊡_, _⨯_}
 use Rattle.rounding.specs.Computations.{sqrtC}
-use Rattle.developments.specs.Rolls as rolls
+use Rattle.developments.specs.Formulas as rolls
 use Rattle.integrals.specs.declared.SurfaceIntegrals.{SurfaceIntegrals}
-use Rattle.integrals.specs.Gauss.{stretchC}
+use Rattle.integrals.specs.Gauss.{panelC}
 use Rattle.walls.specs.declared.Strip.{Strip}
 
 -- 0.25
@@ -50,7 +50,7 @@ abbrev pub alongC : Strip → Vec2 → Vec2 → Float → Checked Vec3
 alongC v p d r = rolls.alongC (v .axis) (v .start) (v .neutral) p d r
 
 -- the sums after all radii where the piece is at p and moves by d
-unfoldable pub stationC : Strip → Vec2 → Vec2 → Float → Float → SurfaceIntegrals → Checked SurfaceIntegrals
-stationC v p d h wt s = do
-  radial ← rolls.radialC (v .axis) (v .start) (v .neutral) (p .x)
-  stretchC (patchC v p radial (alongC v p d) h wt) (v .hr) (v .mr) s
+unfoldable pub nodeC : Strip → Vec2 → Vec2 → Float → Float → SurfaceIntegrals → Checked SurfaceIntegrals
+nodeC v p d h wt s = do
+  radial ← rolls.radialAtC (v .axis) (v .start) (v .neutral) (p .x)
+  panelC (patchC v p radial (alongC v p d) h wt) (v .hr) (v .mr) s

@@ -13,7 +13,7 @@ use checked::fails;
 use checked::tried_neutral;
 use integrals::Added;
 use integrals::Integrals;
-use integrals::Outcome;
+use integrals::SumsOutcome;
 use integrals::settle;
 use pieces::Rolled;
 use pieces::parts::are_both;
@@ -65,7 +65,7 @@ pub fn with_cut_wall(acc: Integrals, p: Rolled, r0: f64, r1: f64, o: Vec3) -> Ad
 }
 
 // What is left of sums after the call, and the number that it answers.
-fn outcome(acc: Integrals, p: Rolled, r0: f64, r1: f64, o: Vec3) -> Outcome
+fn outcome(acc: Integrals, p: Rolled, r0: f64, r1: f64, o: Vec3) -> SumsOutcome
     ensures { λ r. ⌜ r ≡ outcome acc (wallDue p r0 r1 o acc) ⌝ }
 {
     integrals::after(acc, with_cut_wall(acc, p, r0, r1, o))

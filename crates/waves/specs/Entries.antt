@@ -5,9 +5,9 @@ use Rattle.checked.specs.Refusals.{OUT-OF-RANGE}
 use Rattle.checked.specs.Checked.{within, Due, due, refused, answered}
 use Rattle.checked.specs.Tests.{fails, _or_, passing, neutralTest}
 use Rattle.waves.specs.declared.values.Jet.{Jet}
-use Rattle.waves.specs.Values.{jetC}
+use Rattle.waves.specs.Values.{derivativesC}
 use Rattle.waves.specs.declared.turning_points.Span.{Span}
-use Rattle.waves.specs.Ranges.{rangeC}
+use Rattle.waves.specs.TurningPoints.{rangeC}
 use Rattle.waves.specs.declared.Wave.{Wave}
 use Rattle.waves.specs.declared.WaveJet.{WaveJet}
 use Rattle.waves.specs.declared.WaveJet.the-variants as wave-jet
@@ -30,7 +30,7 @@ waveWithin w = within (w .a) && (within (w .b) && within (w .c))
 
 -- `Wave::at`
 unfoldable pub atDue : Wave → Float → Float → Due Jet
-atDue w u n = passing (fails OUT-OF-RANGE (waveWithin w && (within u && within n)) or neutralTest n) (answered (jetC (w .a) (w .b) (w .c) u n))
+atDue w u n = passing (fails OUT-OF-RANGE (waveWithin w && (within u && within n)) or neutralTest n) (answered (derivativesC (w .a) (w .b) (w .c) u n))
 
 -- `Wave::range`
 unfoldable pub rangeDue : Wave → Float → Float → Float → Due Span

@@ -9,14 +9,14 @@ use Rattle.rounding.specs.Laws.{rules as rounding-rules}
 use Rattle.waves.specs.Values.{vC}
 use Rattle.waves.specs.ValuesLaws.{v-refusal}
 use Rattle.waves.specs.declared.turning_points.Turning.{Turning}
-use Rattle.waves.specs.declared.turning_points.Reached.{Reached}
-use Rattle.waves.specs.Ranges.{spotC, insideC, takenC, startC}
+use Rattle.waves.specs.declared.turning_points.RangeSoFar.{RangeSoFar}
+use Rattle.waves.specs.TurningPoints.{spotC, insideC, takenC, startC}
 
 pub start-refusal : (t : Turning) (lo : Float) → startC t lo .refusal ≡ nine (startC t lo .value)
 unfolding startC
 start-refusal t lo = simp (checked-rules, rounding-rules)
 
-module _ (t : Turning) (s : Reached) where
+module _ (t : Turning) (s : RangeSoFar) where
   -- whether the next turning point is inside, by where it is
   pub inside-value : insideC t s .value ≡ le (spotC t (s .k) .value) (t .hi)
   unfolding insideC

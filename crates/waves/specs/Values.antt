@@ -2,9 +2,9 @@
 use lib.Ieee.{Float}
 use Rattle.checked.specs.Checked.{Checked, first, _>>=_, given, finite, num, minus, _⊕_, _⊖_, _⊗_, _⊘_}
 use Rattle.libm.specs.declared.sincos.Sines.{Sines}
-use Rattle.libm.specs.Circle.{sincosC}
+use Rattle.libm.specs.Sincos.{sincosC}
 use Rattle.waves.specs.declared.values.Jet.{Jet}
-use Rattle.waves.specs.declared.values.Incline.{Incline}
+use Rattle.waves.specs.declared.values.WaveSlope.{WaveSlope}
 
 -- sine and cosine of u / n
 abbrev pub sinesC : Float → Float → Checked Sines
@@ -43,7 +43,7 @@ bendC b c u n = do
   secondC b c t n
 
 -- v and the first,
-unfoldable pub withSlopeC : Float → Float → Float → Float → Float → Checked Incline
+unfoldable pub withSlopeC : Float → Float → Float → Float → Float → Checked WaveSlope
 withSlopeC a b c u n = do
   t ← sinesC u n
   v ← heightC a b c t
@@ -51,8 +51,8 @@ withSlopeC a b c u n = do
   given (record { v = v; slope = d })
 
 -- all three
-unfoldable pub jetC : Float → Float → Float → Float → Float → Checked Jet
-jetC a b c u n = do
+unfoldable pub derivativesC : Float → Float → Float → Float → Float → Checked Jet
+derivativesC a b c u n = do
   t ← sinesC u n
   v ← heightC a b c t
   d ← firstC b c t n

@@ -3,8 +3,8 @@ use mathlib.Core.Path.{_≡_}
 use lib.Ieee.{Float, binary64, add, mul, div, neg}
 use Rattle.checked.specs.Checked.{Checked, first, nine}
 use Rattle.checked.specs.Laws.{swap, rules as checked-rules}
-use Rattle.libm.specs.Circle.{sincosC, sinesOrZeros}
-use Rattle.waves.specs.Values.{vC, slopeC, bendC, withSlopeC, jetC}
+use Rattle.libm.specs.Sincos.{sincosC, sinesOrZeros}
+use Rattle.waves.specs.Values.{vC, slopeC, bendC, withSlopeC, derivativesC}
 
 -- −(b·cos + c·sin): it is finite where its quotient is, which is noted after the divisor n·n
 abbrev dividend : Float → Float → Float → Float → Float
@@ -21,8 +21,8 @@ module _ (a b c u n : Float) where
   unfolding withSlopeC
   withSlope-refusal = simp checked-rules
 
-  pub jet-refusal : jetC a b c u n .refusal ≡ first (sincosC (div binary64 u n) .refusal) (first (nine (jetC a b c u n .value .v)) (first (nine (jetC a b c u n .value .slope)) (first (nine (mul binary64 n n)) (nine (jetC a b c u n .value .bend)))))
-  unfolding jetC
+  pub jet-refusal : derivativesC a b c u n .refusal ≡ first (sincosC (div binary64 u n) .refusal) (first (nine (derivativesC a b c u n .value .v)) (first (nine (derivativesC a b c u n .value .slope)) (first (nine (mul binary64 n n)) (nine (derivativesC a b c u n .value .bend)))))
+  unfolding derivativesC
   jet-refusal = simp (swap (dividend b c u n) (mul binary64 n n), checked-rules)
 
 module _ (b c u n : Float) where

@@ -1,6 +1,6 @@
 // The least and the greatest v of a wave between two places, on numbers of any size: at the ends, or where the wave turns between them.
 ghost use mathlib.Core.Path.{_≡_};
-ghost use Rattle.waves.specs.Ranges.{turningC, startC, turnsC, rangeC};
+ghost use Rattle.waves.specs.TurningPoints.{turningC, startC, turnsC, rangeC};
 use crate::values::v;
 use checked::COUNT_TOO_LARGE;
 use checked::CheckedNumber;
@@ -43,7 +43,7 @@ pub struct CheckedTurning {
 }
 
 // The number of the next turning point, and the least and greatest v before it.
-pub struct Reached {
+pub struct RangeSoFar {
     pub k: f64,
     pub low: f64,
     pub high: f64,

@@ -1,19 +1,19 @@
 // A wave v = a + b·cos(u / n) + c·sin(u / n) at u, and its derivatives in u, on numbers of any size. A call works out what its caller reads, and no
 // more: v, the slope, the bend, v with the slope, all three.
 ghost use mathlib.Core.Path.{_≡_};
-ghost use Rattle.waves.specs.Values.{vC, slopeC, bendC, withSlopeC, jetC};
+ghost use Rattle.waves.specs.Values.{vC, slopeC, bendC, withSlopeC, derivativesC};
 use checked::CheckedNumber;
 use checked::note;
 use libm::sincos::sincos;
 
 // v and its first derivative in u.
-pub struct Incline {
+pub struct WaveSlope {
     pub v: f64,
     pub slope: f64,
 }
 
-pub struct CheckedIncline {
-    pub value: Incline,
+pub struct CheckedWaveSlope {
+    pub value: WaveSlope,
     pub refusal: u8,
 }
 
@@ -66,22 +66,22 @@ pub fn bend(b: f64, c: f64, u: f64, n: f64) -> CheckedNumber
     }
 }
 
-pub fn with_slope(a: f64, b: f64, c: f64, u: f64, n: f64) -> CheckedIncline
+pub fn with_slope(a: f64, b: f64, c: f64, u: f64, n: f64) -> CheckedWaveSlope
     ensures refusal { λ r. ⌜ r .refusal ≡ withSlopeC a b c u n .refusal ⌝ }
     ensures value { λ r. ⌜ r .value ≡ withSlopeC a b c u n .value ⌝ }
 {
     let t = sincos(u / n);
     let v = a + b * t.cos + c * t.sin;
     let d = (c * t.cos - b * t.sin) / n;
-    CheckedIncline {
+    CheckedWaveSlope {
         refusal: note(note(t.refusal, v), d),
-        value: Incline { v: v, slope: d },
+        value: WaveSlope { v: v, slope: d },
     }
 }
 
 pub fn jet_at(a: f64, b: f64, c: f64, u: f64, n: f64) -> CheckedJet
-    ensures refusal { λ r. ⌜ r .refusal ≡ jetC a b c u n .refusal ⌝ }
-    ensures value { λ r. ⌜ r .value ≡ jetC a b c u n .value ⌝ }
+    ensures refusal { λ r. ⌜ r .refusal ≡ derivativesC a b c u n .refusal ⌝ }
+    ensures value { λ r. ⌜ r .value ≡ derivativesC a b c u n .value ⌝ }
 {
     let t = sincos(u / n);
     let v = a + b * t.cos + c * t.sin;

@@ -9,18 +9,18 @@ use lib.Ieee.{Float, binary64, add, sub, mul, div, neg, lt, le, eq, isNan, ofBit
 use Rattle.checked.specs.Checked.{Due, due, refused, first, isFinite, nine, eight, within, settled}
 use Rattle.checked.specs.Patterns.{bits}
 use Rattle.checked.specs.Numbers.{zero, one, two, three, float}
-use Rattle.float_bits.specs.Words.{fabs, signed, choose}
+use Rattle.float_bits.specs.FloatBits.{fabs, signed, choose}
 use Rattle.rounding.specs.Root.{sqrt}
 use Rattle.rounding.specs.Whole.{ceil}
-use Rattle.libm.specs.Reduction.{secondRound, medium, toFive, toNine, remPio2}
-use Rattle.libm.specs.Circle.{turnedSines, sines, sinesOrZeros}
-use Rattle.libm.specs.Arccosine.{acosFar, acosNear}
+use Rattle.libm.specs.RemPio2.{secondRound, medium, toFive, toNine, remPio2}
+use Rattle.libm.specs.Sincos.{turnedSines, sines, sinesOrZeros}
+use Rattle.libm.specs.Acos.{acosFar, acosNear}
 use Rattle.libm.specs.Roots.{acos, hypot}
 use Rattle.chord_counts.specs.Chords.{quotientC, chordsC, clamped, perTurnC}
 use Rattle.chord_counts.specs.Counts.{limitedC, countC}
 use Rattle.rows.specs.Rows.{upTo}
 use Rattle.libm.specs.Atan.{reduced, atan}
-use Rattle.libm.specs.Arctangent.{isOne, ratioAngle, angle, atan2}
+use Rattle.libm.specs.Atan2.{isOne, ratioAngle, angle, atan2}
 use Rattle.order.specs.Least.{negative, least, greatest}
 use Rattle.vectors.specs.declared.Vec2.{Vec2}
 use Rattle.vectors.specs.declared.Vec3.{Vec3}
@@ -31,31 +31,31 @@ use Rattle.profile_arcs.specs.declared.ProfileArc.{ProfileArc}
 use Rattle.directions.specs.Directions.{lengthC, acrossC}
 use Rattle.profile_arcs.specs.Angles.{aheadC, backC}
 use Rattle.profile_arcs.specs.Profiles.{apartC, turnC, turnDue}
-use Rattle.arcs.specs.Sweeps.{circleWithin, endsWithin, sweepFromC, sweepC}
-use Rattle.arcs.specs.Spokes.{spokeC, turnedC, atC}
+use Rattle.arcs.specs.Sweep.{circleWithin, endsWithin, sweepFromC, sweepC}
+use Rattle.arcs.specs.Points.{radiusVectorC, turnedC, atC}
 use Rattle.arcs.specs.Extremes.{sideC, takenC, bothC, extremesC, pointsC}
-use Rattle.arcs.specs.Cuts.{chordWithin, cutC, innerC, innersDue}
+use Rattle.arcs.specs.Chords.{chordWithin, cutC, innerC, innersDue}
 use Rattle.arcs.specs.declared.Arc.{Arc}
 use Rattle.arcs.specs.Arcs.{reversedC}
 use Rattle.arcs.specs.Entries.{reversedDue, sweepDue, extendDue, innerPointsDue}
 use Rattle.checked.specs.Tests.{fails, passing, neutralTest, chordTest}
-use Rattle.waves.specs.Values.{jetC}
+use Rattle.waves.specs.Values.{derivativesC}
 use Rattle.waves.specs.declared.Wave.{Wave}
 use Rattle.waves.specs.Entries.{waveWithin, atDue}
-use Rattle.meets.specs.Pipes.{ownC, lesserC, reachC}
-use Rattle.meets.specs.Reaches.{heightC as zC}
+use Rattle.meets.specs.Quadratic.{ownC, lesserC, intersectionC}
+use Rattle.meets.specs.Generatrix.{heightC as zC}
 use Rattle.meets.specs.declared.Turn.the-variants as turn
 use Rattle.meets.specs.declared.Meet.{Meet}
 use Rattle.meets.specs.Meets.{pipeC, heightC}
 use Rattle.meets.specs.Entries.{turnWithin, meetWithin}
 use Rattle.traces.specs.declared.Trace.the-variants as trace
 use Rattle.traces.specs.Traces.{some, meetHeightC, meetC, vC, traceWithin, vDue}
-use Rattle.libm.specs.Hypotenuse as hypotenuse
+use Rattle.libm.specs.Hypot as hypotenuse
 use Rattle.developments.specs.declared.Development.{Development}
 use Rattle.developments.specs.Developments.{developmentWithin}
 use Rattle.piece_curves.specs.declared.PieceArc.the-variants as piece-arc
 use Rattle.piece_curves.specs.declared.PieceTrace.the-variants as piece-trace
-use Rattle.piece_curves.specs.Runs as runs
+use Rattle.piece_curves.specs.PieceCurves as runs
 use Rattle.piece_curves.specs.Points as run-points
 use Rattle.piece_lengths.specs.Measures.{distanceC}
 use Rattle.piece_boxes.specs.CurveBoxes as run-boxes
@@ -225,5 +225,5 @@ cases =
 
 -- every case computes
 pub all-hold : All cases
-unfolding cases add sub mul div neg lt le eq isNan ofBits toBits first isFinite nine within settled fabs signed choose sqrt reduced atan isOne ratioAngle angle atan2 negative least greatest within2 within3 plusC minusC timesC negC crossC dotC lesser greater widened widenedBy numbers free boxCall lengthC acrossC aheadC backC apartC turnC turnDue sweepFromC sweepC sideC takenC bothC extremesC pointsC circleWithin endsWithin chordWithin sweepDue extendDue reversedC reversedDue inBytes number point arcRecord signedWhole thousandths spelled digits numeral bytes spaced corner emptyLine refusedLine boxLine lowFirst numberAt pointAt tagged headOf kindOf edgeOf recordOf sizeOf next printed ended lineFrom lineOf ofInt toUnsigned toSigned eight ceil secondRound medium toFive toNine remPio2 turnedSines sines sinesOrZeros acosFar acosNear acos quotientC chordsC clamped perTurnC limitedC countC upTo spokeC turnedC atC cutC innerC innersDue innerPointsDue fails passing neutralTest chordTest jetC waveWithin atDue ownC lesserC reachC zC pipeC heightC turnWithin meetWithin meetHeightC meetC vC traceWithin vDue hypotenuse.greater hypotenuse.lesser hypotenuse.hypotOrdered hypot developmentWithin runs.tracedC runs.untraced runs.wayC runs.runC run-points.straightC run-points.atC distanceC run-boxes.ends run-boxes.arcC run-boxes.boxC steepC offC waveLineC polylineC arcWithin followedWithin isTraced both runC pieces.pieceWithin pieces.tests pieces.atDue pieces.uvBoxDue pieces.polylineDue
+unfolding cases add sub mul div neg lt le eq isNan ofBits toBits first isFinite nine within settled fabs signed choose sqrt reduced atan isOne ratioAngle angle atan2 negative least greatest within2 within3 plusC minusC timesC negC crossC dotC lesser greater widened widenedBy numbers free boxCall lengthC acrossC aheadC backC apartC turnC turnDue sweepFromC sweepC sideC takenC bothC extremesC pointsC circleWithin endsWithin chordWithin sweepDue extendDue reversedC reversedDue inBytes number point arcRecord signedWhole thousandths spelled digits numeral bytes spaced corner emptyLine refusedLine boxLine lowFirst numberAt pointAt tagged headOf kindOf edgeOf recordOf sizeOf next printed ended lineFrom lineOf ofInt toUnsigned toSigned eight ceil secondRound medium toFive toNine remPio2 turnedSines sines sinesOrZeros acosFar acosNear acos quotientC chordsC clamped perTurnC limitedC countC upTo radiusVectorC turnedC atC cutC innerC innersDue innerPointsDue fails passing neutralTest chordTest derivativesC waveWithin atDue ownC lesserC intersectionC zC pipeC heightC turnWithin meetWithin meetHeightC meetC vC traceWithin vDue hypotenuse.greater hypotenuse.lesser hypotenuse.hypotOrdered hypot developmentWithin runs.tracedC runs.untraced runs.kindC runs.curveC run-points.straightC run-points.atC distanceC run-boxes.ends run-boxes.arcC run-boxes.boxC steepC offC waveLineC polylineC arcWithin followedWithin isTraced both runC pieces.pieceWithin pieces.tests pieces.atDue pieces.uvBoxDue pieces.polylineDue
 all-hold = (refl, (refl, (refl, (refl, (refl, (refl, (refl, (refl, (refl, (refl, (refl, (refl, (refl, (refl, (refl, (refl, (refl, (refl, (refl, tt)))))))))))))))))))

@@ -1,15 +1,15 @@
 use borrow.Author.Needs.{needs}
 use Rattle.checked.specs.Laws.{first-assoc, first-zero}
 use Rattle.face_paths.specs.ArcPaths.{arcPathC}
-use Rattle.face_paths.specs.Paths.{trackAt, withArcC}
+use Rattle.face_paths.specs.Paths.{facePathAt, withArcC}
 use Rattle.face_paths.proofs.with_arc.Statement.{statement}
 use Rattle.face_paths.proofs.with_arc.Tie as tie
 
 revolve-requires : tie.Need-revolve-requires
 revolve-requires c κs = search needs
 
-course-of-requires : tie.Need-course-of-requires
-course-of-requires c κs = search needs
+arc-path-of-requires : tie.Need-arc-path-of-requires
+arc-path-of-requires c κs = search needs
 
 earlier-requires : tie.Need-earlier-requires
 earlier-requires c κs = search needs
@@ -18,14 +18,14 @@ along-requires : tie.Need-along-requires
 along-requires c κs = search needs
 
 returns : tie.Need-returns
-unfolding withArcC arcPathC trackAt
+unfolding withArcC arcPathC facePathAt
 returns c =
     let w = c .before .before .before .before .before .before .before .revolve .ensures in
-    let d = c .before .before .before .before .before .course-of .ensures in
+    let d = c .before .before .before .before .before .arc-path-of .ensures in
     let a = c .before .along .ensures in
     (simp (a .0, c .before .before .earlier .ensures, d .0, d .1, w .0, w .1, first-zero, first-assoc), simp (a .1, d .1, w .1))
 
 pub with-arc-spec : {M : Type 1} → statement M
 with-arc-spec =
     tie.close
-    (tie.spec revolve-requires course-of-requires earlier-requires along-requires returns)
+    (tie.spec revolve-requires arc-path-of-requires earlier-requires along-requires returns)

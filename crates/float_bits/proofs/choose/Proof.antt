@@ -2,7 +2,7 @@ use Prim.Native.Nat.{ℕ, _<_, _≤_}
 use mathlib.Core.Path.{_≡_}
 use native.Mathlib.Omega.{arith}
 use borrow.Author.Tests.{eq-eqb, ne-eqb}
-use Rattle.float_bits.specs.Words.{choose}
+use Rattle.float_bits.specs.FloatBits.{choose}
 use Rattle.float_bits.proofs.choose.Statement.{statement}
 use Rattle.float_bits.proofs.choose.Tie as tie
 

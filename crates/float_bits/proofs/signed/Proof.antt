@@ -1,4 +1,4 @@
-use Rattle.float_bits.specs.Words.{signed}
+use Rattle.float_bits.specs.FloatBits.{signed}
 use borrow.Author.Tests.{eq-eqb, ne-eqb}
 use Rattle.float_bits.proofs.signed.Statement.{statement}
 use Rattle.float_bits.proofs.signed.Tie as tie

@@ -17,8 +17,8 @@ use lib.Ieee.Back.{positive-back, negative-back}
 use Rattle.rounding.specs.Values.{fits-small}
 use Rattle.rounding.specs.Patterns.{value-unique, pattern-value, rescale}
 use Rattle.checked.specs.Checked.{within as due}
-use Rattle.float_bits.specs.Words.{_*ᶠ_}
-use Rattle.libm.specs.Reduction.{quarter, TO-INT, INV-PIO2, tmp, turns}
+use Rattle.float_bits.specs.FloatBits.{_*ᶠ_}
+use Rattle.libm.specs.RemPio2.{quarter, TO-INT, INV-PIO2, tmp, turns}
 use Rattle.libm.specs.RemPio2Laws.{tmp-range}
 
 -- ---- comparisons as facts

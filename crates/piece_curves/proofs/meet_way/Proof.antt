@@ -1,5 +1,5 @@
 use borrow.Author.Needs.{needs}
-use Rattle.piece_curves.specs.Runs.{meetWayC}
+use Rattle.piece_curves.specs.PieceCurves.{meetKindC}
 use Rattle.checked.specs.Laws.{rules as checked-rules}
 use Rattle.piece_curves.proofs.meet_way.Statement.{statement}
 use Rattle.piece_curves.proofs.meet_way.Tie as tie
@@ -8,7 +8,7 @@ pipe-requires : tie.Need-pipe-requires
 pipe-requires c κs = search needs
 
 returns : tie.Need-returns
-unfolding meetWayC
+unfolding meetKindC
 returns c = (simp (c .before .pipe .ensures .0, c .before .pipe .ensures .1, checked-rules), simp (c .before .pipe .ensures .1))
 
 pub meet-way-spec : {M : Type 1} → statement M

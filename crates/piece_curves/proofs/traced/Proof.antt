@@ -1,5 +1,5 @@
 use borrow.Author.Needs.{needs}
-use Rattle.piece_curves.specs.Runs.{tracedC}
+use Rattle.piece_curves.specs.PieceCurves.{tracedC}
 use Rattle.piece_curves.proofs.traced.Statement.{statement}
 use Rattle.piece_curves.proofs.traced.Tie as tie
 

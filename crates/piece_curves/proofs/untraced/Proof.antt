@@ -1,5 +1,5 @@
 use borrow.Author.Needs.{needs}
-use Rattle.piece_curves.specs.Runs.{untraced}
+use Rattle.piece_curves.specs.PieceCurves.{untraced}
 use Rattle.piece_curves.proofs.untraced.Statement.{statement}
 use Rattle.piece_curves.proofs.untraced.Tie as tie
 

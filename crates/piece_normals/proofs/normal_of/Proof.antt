@@ -1,5 +1,5 @@
 use borrow.Author.Needs.{needs}
-use Rattle.developments.specs.Rolls.{alongC}
+use Rattle.developments.specs.Formulas.{alongC}
 use mathlib.Core.Path.{sym, _∙_}
 use Rattle.piece_normals.specs.Laws.{normal-refusal}
 use Rattle.piece_normals.specs.Normals.{normalC}

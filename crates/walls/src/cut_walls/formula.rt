@@ -2,10 +2,10 @@
 // stations.
 ghost use mathlib.Core.Path.{_≡_};
 ghost use Rattle.checked.specs.Checked.{first};
-ghost use Rattle.integrals.specs.Gauss.{stretchAtC, alongC};
+ghost use Rattle.integrals.specs.Gauss.{panelAtC, alongC};
 ghost use Rattle.walls.specs.CutWalls.{stationAtC, wallC};
 use crate::Strip;
-use crate::station;
+use crate::node;
 use crate::strip_of;
 use checked::earlier;
 use checked::note;
@@ -15,7 +15,7 @@ use integrals::Integrals;
 use integrals::WEIGHTS;
 use integrals::lies;
 use integrals::lies_noted;
-use piece_curves::Run;
+use piece_curves::PieceCurve;
 use piece_curves::points::at;
 use piece_lengths::counts::quadrature_pieces;
 use pieces::Rolled;
@@ -23,9 +23,9 @@ use pieces::formula::run;
 use vectors::Vec3;
 
 // The sums after all radii at t.
-fn station_at(
+fn node_at(
     v: Strip,
-    r: Run,
+    r: PieceCurve,
     h: f64,
     wt: f64,
     t: f64,
@@ -36,7 +36,7 @@ fn station_at(
 {
     let q = at(r, t);
     let sums = s.value;
-    station(
+    node(
         v,
         q.value.p,
         q.value.d,
@@ -50,9 +50,15 @@ fn station_at(
 }
 
 // The stretch i, of length h.
-fn stretch(v: Strip, r: Run, h: f64, i: u16, s: CheckedSurfaceIntegrals) -> CheckedSurfaceIntegrals
-    ensures refusal { λ a. ⌜ a .refusal ≡ first (s .refusal) (stretchAtC (stationAtC v r) h i (s .value) .refusal) ⌝ }
-    ensures value { λ a. ⌜ a .value ≡ stretchAtC (stationAtC v r) h i (s .value) .value ⌝ }
+fn panel(
+    v: Strip,
+    r: PieceCurve,
+    h: f64,
+    i: u16,
+    s: CheckedSurfaceIntegrals,
+) -> CheckedSurfaceIntegrals
+    ensures refusal { λ a. ⌜ a .refusal ≡ first (s .refusal) (panelAtC (stationAtC v r) h i (s .value) .refusal) ⌝ }
+    ensures value { λ a. ⌜ a .value ≡ panelAtC (stationAtC v r) h i (s .value) .value ⌝ }
 {
     let mid = h * ((i as f64) + 0.5);
     let start = s.value;
@@ -64,7 +70,7 @@ fn stretch(v: Strip, r: Run, h: f64, i: u16, s: CheckedSurfaceIntegrals) -> Chec
     while j < 8 {
         let sums = a.value;
         let n = lies_noted(a.refusal, h, mid, j);
-        a = station_at(
+        a = node_at(
             v,
             r,
             h,
@@ -81,7 +87,7 @@ fn stretch(v: Strip, r: Run, h: f64, i: u16, s: CheckedSurfaceIntegrals) -> Chec
 }
 
 // All n stretches of the wall.
-fn along(v: Strip, r: Run, n: u16, s: CheckedSurfaceIntegrals) -> CheckedSurfaceIntegrals
+fn along(v: Strip, r: PieceCurve, n: u16, s: CheckedSurfaceIntegrals) -> CheckedSurfaceIntegrals
     ensures refusal { λ a. ⌜ a .refusal ≡ first (s .refusal) (alongC (stationAtC v r) n (s .value) .refusal) ⌝ }
     ensures value { λ a. ⌜ a .value ≡ alongC (stationAtC v r) n (s .value) .value ⌝ }
 {
@@ -93,7 +99,7 @@ fn along(v: Strip, r: Run, n: u16, s: CheckedSurfaceIntegrals) -> CheckedSurface
     };
     let mut i: u16 = 0;
     while i < n {
-        a = stretch(v, r, h, i, a);
+        a = panel(v, r, h, i, a);
         i += 1;
     }
     a

@@ -47,9 +47,9 @@ use Rattle.vectors.proofs.Vec3.Laws as Vec3-laws
 use Rattle.boxes.specs.declared.Bounds.{Bounds}
 use Rattle.boxes.proofs.Bounds as Bounds-type
 use Rattle.boxes.proofs.Bounds.Laws as Bounds-laws
-use Rattle.boxes.specs.declared.Outcome.{Outcome}
-use Rattle.boxes.proofs.Outcome as Outcome-type
-use Rattle.boxes.proofs.Outcome.Laws as Outcome-laws
+use Rattle.boxes.specs.declared.BoxOutcome.{BoxOutcome}
+use Rattle.boxes.proofs.BoxOutcome as BoxOutcome-type
+use Rattle.boxes.proofs.BoxOutcome.Laws as BoxOutcome-laws
 use Rattle.boxes.specs.Boxes.{outcome}
 use Rattle.arcs.specs.Entries.{extendDue}
 use Rattle.arcs.proofs.Arc.outcome as step
@@ -81,17 +81,17 @@ abbrev Bounds-spelled : Bounds → Val
 Bounds-spelled x = only ((LL.vals Bounds-type.the-type Bounds-laws.the-laws) x)
 
 -- what a value at some machine values tells of its parts
-kept : (l : Outcome) {vs : List Val} → Is Outcome-type.the-row l vs → Is Bounds-type.the-row (l .bounds) ((Bounds-spelled (l .bounds)) ∷ [])
-kept l {vs} is = LL.owed Outcome-type.the-type Outcome-laws.the-laws l vs is .0
+kept : (l : BoxOutcome) {vs : List Val} → Is BoxOutcome-type.the-row l vs → Is Bounds-type.the-row (l .bounds) ((Bounds-spelled (l .bounds)) ∷ [])
+kept l {vs} is = LL.owed BoxOutcome-type.the-type BoxOutcome-laws.the-laws l vs is .0
 
-number-of : (l : Outcome) {vs : List Val} → Is Outcome-type.the-row l vs → Is u8 (l .number) (vint w8 (l .number) ∷ [])
-number-of l {vs} is = LL.owed Outcome-type.the-type Outcome-laws.the-laws l vs is .1 .0
+number-of : (l : BoxOutcome) {vs : List Val} → Is BoxOutcome-type.the-row l vs → Is u8 (l .number) (vint w8 (l .number) ∷ [])
+number-of l {vs} is = LL.owed BoxOutcome-type.the-type BoxOutcome-laws.the-laws l vs is .1 .0
 
 module _ {M : Type 1} (𝓤 : URA M) (H : Heap 𝓤) (A : Atoms 𝓤) (at-mem : Memory → SProp 𝓤) (run : Routine → Fun 𝓤) where
   abbrev StepC : Contract 𝓤
   StepC = tripleOf 𝓤 H A step.signature (step.spec 𝓤 H A at-mem run)
 
-  given-by : (the-self : Arc) (the-from : Vec3) (the-to : Vec3) (the-bounds : Bounds) (l : Outcome) → ent 𝓤 (ensured 𝓤 H A step.ended (step.clauses 𝓤 H A at-mem run) tt (the-self, (the-from, (the-to, (the-bounds, tt)))) tt l) (fact 𝓤 (l ≡ outcome the-bounds (extendDue the-self the-from the-to the-bounds)))
+  given-by : (the-self : Arc) (the-from : Vec3) (the-to : Vec3) (the-bounds : Bounds) (l : BoxOutcome) → ent 𝓤 (ensured 𝓤 H A step.ended (step.clauses 𝓤 H A at-mem run) tt (the-self, (the-from, (the-to, (the-bounds, tt)))) tt l) (fact 𝓤 (l ≡ outcome the-bounds (extendDue the-self the-from the-to the-bounds)))
   given-by the-self the-from the-to the-bounds l = exE 𝓤 _ (λ ws. snd∗ 𝓤 (sem 𝓤 H A (lasts step.ended tt (the-self, (the-from, (the-to, (the-bounds, tt)))) ws)) (fact 𝓤 (l ≡ outcome the-bounds (extendDue the-self the-from the-to the-bounds))))
 
 module _ {M : Type 1} (𝓤 : URA M) (H : Heap 𝓤) (A : Atoms 𝓤) (W : Given 𝓤 H A) (at-mem : Memory → SProp 𝓤) (run : Routine → Fun 𝓤) (κ : Lft) (q : Share) (b o : ℕ) (γ : GName) (the-self : Arc) (the-from : Vec3) (the-to : Vec3) (the-bounds : Bounds)
@@ -112,12 +112,12 @@ module _ {M : Type 1} (𝓤 : URA M) (H : Heap 𝓤) (A : Atoms 𝓤) (W : Given
     goes-step : ent 𝓤 (sep 𝓤 (sem 𝓤 H A ftrue) (sem 𝓤 H A (owns (Arc-type.the-row ∷ Vec3-type.the-row ∷ Vec3-type.the-row ∷ Bounds-type.the-row ∷ []) (the-self, (the-from, (the-to, (the-bounds, tt)))) ((Arc-spelled the-self) ∷ [], ((Vec3-spelled the-from) ∷ [], ((Vec3-spelled the-to) ∷ [], ((Bounds-spelled the-bounds) ∷ [], tt))))))) (StepC 𝓤 H A at-mem run .pre to-step)
     goes-step = qed W (‵ ftrue ∷ ‵ (owns (Arc-type.the-row ∷ Vec3-type.the-row ∷ Vec3-type.the-row ∷ Bounds-type.the-row ∷ []) (the-self, (the-from, (the-to, (the-bounds, tt)))) ((Arc-spelled the-self) ∷ [], ((Vec3-spelled the-from) ∷ [], ((Vec3-spelled the-to) ∷ [], ((Bounds-spelled the-bounds) ∷ [], tt))))) ∷ []) ∵ join ! $ frame ! $ done !
 
-    exits : (l : Outcome) → l ≡ outcome the-bounds (extendDue the-self the-from the-to the-bounds) → Is u8 (l .number) (vint w8 (l .number) ∷ [])
+    exits : (l : BoxOutcome) → l ≡ outcome the-bounds (extendDue the-self the-from the-to the-bounds) → Is u8 (l .number) (vint w8 (l .number) ∷ [])
         → ent 𝓤 (sep 𝓤 (A .obs γ (Bounds-type.the-row .coded .code (l .bounds))) (sep 𝓤 (A .bor κ (Body (mem Bounds-type.the-row) b o γ)) (A .lft κ q))) (Post (vint w8 (l .number)))
     exits l e ok =
         qed W (‵ (fobs γ (Bounds-type.the-row .coded .code (l .bounds))) ∷ ‵ (fbor κ (Body (mem Bounds-type.the-row) b o γ)) ∷ ‵ (flft κ q) ∷ []) ∵
         suffices ! _ (ends-at 𝓤 H A f.ended stayed (f.clauses 𝓤 H A at-mem run) W (((κ, tt), (q, tt), tt, x, at), tt) (vint w8 (l .number)) (l .number) (tt, (tt, (tt, (l .bounds, tt)))) (tt, (tt, (tt, (tt, tt))))) $
-        says ! (record { says = ap (λ (m : Outcome). m .number) e; leaves = ap (λ (m : Outcome). m .bounds) e }) $ nothing ! $ move ! (3 ∷ 0 ∷ []) $ join ! $ frame ! $
+        says ! (record { says = ap (λ (m : BoxOutcome). m .number) e; leaves = ap (λ (m : BoxOutcome). m .bounds) e }) $ nothing ! $ move ! (3 ∷ 0 ∷ []) $ join ! $ frame ! $
         feqI ! (List Val) (vptr b o ∷ []) (vptr b o ∷ []) refl $ fjoin3 ! $ nothing ! $
         move ! (1 ∷ 0 ∷ []) $ fjoin ! $
         owned ! Vec3-type.the-row (Is Vec3-type.the-row) (LL.makes Vec3-type.the-type Vec3-laws.the-plain 𝓤 H A) the-to _ is-the-to $ fjoin ! $
@@ -145,11 +145,11 @@ module _ {M : Type 1} (𝓤 : URA M) (H : Heap 𝓤) (A : Atoms 𝓤) (W : Given
           owned ! Arc-type.the-row (Is Arc-type.the-row) (LL.makes Arc-type.the-type Arc-laws.the-plain 𝓤 H A) the-self _ is-the-self $ fjoin ! $ nothing ! $
           use2 W (raw (StepC 𝓤 H A at-mem run .pre to-step)) goes-step $
           calls-at ! fm (StepC 𝓤 H A at-mem run) known to-step (and-then ! (load ! (from ! (stop !)) (look ! 16 refl)) (and-then ! (load ! (from ! (stop !)) (look ! 14 refl)) (and-then ! (load ! (from ! (stop !)) (look ! 12 refl)) (and-then ! (load ! (from ! (stop !)) (look ! 6 refl)) (no-more !))))) (λ v.
-          use1 W (later (some (λ (l : Outcome). (‵ ftrue ⊛ ‵ (Outcome-type.the-row .own l (v ∷ []))) ⊛ raw (ensured 𝓤 H A step.ended (step.clauses 𝓤 H A at-mem run) tt (the-self, (the-from, (the-to, (the-bounds, tt)))) tt l)))) (id⊢ 𝓤 _) $ await ! tt $ pick ! (λ l.
+          use1 W (later (some (λ (l : BoxOutcome). (‵ ftrue ⊛ ‵ (BoxOutcome-type.the-row .own l (v ∷ []))) ⊛ raw (ensured 𝓤 H A step.ended (step.clauses 𝓤 H A at-mem run) tt (the-self, (the-from, (the-to, (the-bounds, tt)))) tt l)))) (id⊢ 𝓤 _) $ await ! tt $ pick ! (λ l.
           split ! $ move ! (1 ∷ []) $ use1 W (raw (fact 𝓤 (l ≡ outcome the-bounds (extendDue the-self the-from the-to the-bounds)))) (given-by 𝓤 H A at-mem run the-self the-from the-to the-bounds l) $ heard ! (l ≡ outcome the-bounds (extendDue the-self the-from the-to the-bounds)) (λ e. split ! $ drop ! $
-          peeks ! Outcome-type.the-row (Is Outcome-type.the-row) (shows 𝓤 H A Outcome-type.the-row) l (v ∷ []) (λ is.
-          land ! (from ! (stop !)) (init ! 8 refl (LL.lawful Outcome-type.the-type Outcome-laws.the-laws 𝓤 H A W .typed l _ is .0)) $
-          rewrite ! 8 (λ (u : Val). ‵ (fat fullShare Outcome-laws.mir l5 0 u)) (ap only ((LL.tells Outcome-type.the-type Outcome-laws.the-laws) l (v ∷ []) is)) refl $ drop ! $
+          peeks ! BoxOutcome-type.the-row (Is BoxOutcome-type.the-row) (shows 𝓤 H A BoxOutcome-type.the-row) l (v ∷ []) (λ is.
+          land ! (from ! (stop !)) (init ! 8 refl (LL.lawful BoxOutcome-type.the-type BoxOutcome-laws.the-laws 𝓤 H A W .typed l _ is .0)) $
+          rewrite ! 8 (λ (u : Val). ‵ (fat fullShare BoxOutcome-laws.mir l5 0 u)) (ap only ((LL.tells BoxOutcome-type.the-type BoxOutcome-laws.the-laws) l (v ∷ []) is)) refl $ drop ! $
           assigns ! (of-opd ! (load ! (from ! (fld ! refl (stop !))) (look-in ! 7 (sub ! 0 refl (whole !))))) (from ! (hop ! (look ! 9 refl) (stop !))) (store-raw ! 0 refl (LL.lawful Bounds-type.the-type Bounds-laws.the-laws 𝓤 H A W .typed (l .bounds) _ (kept l is) .0)) $
           assigns ! (of-opd ! (load ! (from ! (fld ! refl (stop !))) (look-in ! 7 (sub ! 1 refl (whole !))))) (from ! (stop !)) (init ! 17 refl (tt, record { fits = number-of l is .1 })) $
           move ! (1 ∷ []) $ drop ! $ owned ! Bounds-type.the-row (Is Bounds-type.the-row) (LL.makes Bounds-type.the-type Bounds-laws.the-plain 𝓤 H A) (l .bounds) _ (kept l is) $ move ! (1 ∷ 0 ∷ []) $ closes ! tt Bounds-type.the-row (l .bounds) ((Bounds-spelled (l .bounds)) ∷ []) b o $

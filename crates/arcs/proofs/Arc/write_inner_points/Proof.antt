@@ -5,7 +5,7 @@ use Rattle.checked.specs.Laws.{settled-none, settled-some}
 use Rattle.checked.specs.TestsLaws.{passing-none}
 use Rattle.rows.specs.Rows.{point}
 use Rattle.rows.specs.Laws.{drawn-refused, drawn-failed}
-use Rattle.arcs.specs.Cuts.{cutC}
+use Rattle.arcs.specs.Chords.{cutC}
 use Rattle.arcs.specs.Entries.{innerPointsDue}
 use Rattle.arcs.proofs.Arc.write_inner_points.Statement.{statement}
 use Rattle.arcs.proofs.Arc.write_inner_points.Tie as tie

@@ -1,5 +1,5 @@
 use borrow.Author.Needs.{needs}
-use Rattle.arcs.specs.Cuts.{chordWithin}
+use Rattle.arcs.specs.Chords.{chordWithin}
 use Rattle.arcs.proofs.chords.chord_within.Statement.{statement}
 use Rattle.arcs.proofs.chords.chord_within.Tie as tie
 

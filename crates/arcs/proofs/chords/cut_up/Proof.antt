@@ -1,5 +1,5 @@
 use borrow.Author.Needs.{needs}
-use Rattle.arcs.specs.Cuts.{cutC}
+use Rattle.arcs.specs.Chords.{cutC}
 use Rattle.checked.specs.Laws.{first-assoc}
 use Rattle.arcs.specs.ChordsLaws.{cut-refusal}
 use Rattle.arcs.proofs.chords.cut_up.Statement.{statement}

@@ -4,13 +4,13 @@ use lib.ListN.{length}
 use Rattle.checked.specs.Answers.{numberOf}
 use Rattle.rows.specs.Rows.{allDue, point}
 use Rattle.rows.specs.Laws.{part-length, part-refused}
-use Rattle.arcs.specs.Cuts.{innersDue}
+use Rattle.arcs.specs.Chords.{innersDue}
 use Rattle.arcs.specs.ChordsLaws.{inners-are}
 use Rattle.arcs.proofs.chords.write_points.Statement.{statement}
 use Rattle.arcs.proofs.chords.write_points.Tie as tie
 
-spoke-requires : tie.Need-spoke-requires
-spoke-requires c κs = search needs
+radius-vector-requires : tie.Need-radius-vector-requires
+radius-vector-requires c κs = search needs
 
 cross-requires : tie.Need-cross-requires
 cross-requires c κs = search needs
@@ -30,7 +30,7 @@ returns c =
     let w = c .before .before .before .write .ensures in
     let m = c .before .before .before .before .before .less-one .ensures in
     let q = c .before .before .before .before .before .before .cross .ensures in
-    let d = c .before .before .before .before .before .before .before .before .spoke .ensures in
+    let d = c .before .before .before .before .before .before .before .before .radius-vector .ensures in
     let is : innersDue (start .center) (start .axis) (start .radius) (start .from) (start .cut) (length (start .row .now)) ≡ allDue _ _ _ _ = inners-are (start .center) (start .axis) (start .radius) (start .from) (start .cut) (length (start .row .now)) in
     record {
       number = simp (is, w .0, m, q, d .0, d .1);
@@ -47,7 +47,7 @@ returns-2 c =
     let w = c .before .before .before .write .ensures in
     let m = c .before .before .before .before .before .less-one .ensures in
     let q = c .before .before .before .before .before .before .cross .ensures in
-    let d = c .before .before .before .before .before .before .before .before .spoke .ensures in
+    let d = c .before .before .before .before .before .before .before .before .radius-vector .ensures in
     let is : innersDue (start .center) (start .axis) (start .radius) (start .from) (start .cut) (length (start .row .now)) ≡ allDue _ _ _ _ = inners-are (start .center) (start .axis) (start .radius) (start .from) (start .cut) (length (start .row .now)) in
     let number : c .before .before .before .write .result ≡ numberOf (innersDue (start .center) (start .axis) (start .radius) (start .from) (start .cut) (length (start .row .now))) = simp (is, w .0, m, q, d .0, d .1) in
     record {
@@ -60,7 +60,7 @@ pub write-points-spec : {M : Type 1} → statement M
 write-points-spec =
     tie.close
     (tie.spec
-    spoke-requires
+    radius-vector-requires
     cross-requires
     less-one-requires
     write-requires

@@ -1,5 +1,5 @@
 use borrow.Author.Needs.{needs}
-use Rattle.arcs.specs.Spokes.{angleWithin}
+use Rattle.arcs.specs.Points.{angleWithin}
 use Rattle.arcs.proofs.points.angle_within.Statement.{statement}
 use Rattle.arcs.proofs.points.angle_within.Tie as tie
 

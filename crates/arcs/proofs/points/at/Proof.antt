@@ -1,11 +1,11 @@
 use borrow.Author.Needs.{needs}
-use Rattle.arcs.specs.Spokes.{atC}
+use Rattle.arcs.specs.Points.{atC}
 use Rattle.arcs.specs.PointsLaws.{turned-refusal, turned-value}
 use Rattle.arcs.proofs.points.at.Statement.{statement}
 use Rattle.arcs.proofs.points.at.Tie as tie
 
-spoke-requires : tie.Need-spoke-requires
-spoke-requires c κs = search needs
+radius-vector-requires : tie.Need-radius-vector-requires
+radius-vector-requires c κs = search needs
 
 cross-requires : tie.Need-cross-requires
 cross-requires c κs = search needs
@@ -18,8 +18,8 @@ earlier-requires c κs = search needs
 
 returns : tie.Need-returns
 unfolding atC
-returns c = (simp (c .earlier .ensures, c .before .before .point .ensures .0, c .before .before .before .cross .ensures, c .before .before .before .before .before .spoke .ensures .0, c .before .before .before .before .before .spoke .ensures .1, turned-refusal), simp (c .before .before .point .ensures .1, c .before .before .before .cross .ensures, c .before .before .before .before .before .spoke .ensures .1, turned-value))
+returns c = (simp (c .earlier .ensures, c .before .before .point .ensures .0, c .before .before .before .cross .ensures, c .before .before .before .before .before .radius-vector .ensures .0, c .before .before .before .before .before .radius-vector .ensures .1, turned-refusal), simp (c .before .before .point .ensures .1, c .before .before .before .cross .ensures, c .before .before .before .before .before .radius-vector .ensures .1, turned-value))
 
 pub at-spec : {M : Type 1} → statement M
 at-spec =
-    tie.close (tie.spec spoke-requires cross-requires point-requires earlier-requires returns)
+    tie.close (tie.spec radius-vector-requires cross-requires point-requires earlier-requires returns)

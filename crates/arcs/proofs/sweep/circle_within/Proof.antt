@@ -1,5 +1,5 @@
 use borrow.Author.Needs.{needs}
-use Rattle.arcs.specs.Sweeps.{circleWithin}
+use Rattle.arcs.specs.Sweep.{circleWithin}
 use Rattle.arcs.proofs.sweep.circle_within.Statement.{statement}
 use Rattle.arcs.proofs.sweep.circle_within.Tie as tie
 

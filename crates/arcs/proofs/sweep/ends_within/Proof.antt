@@ -1,5 +1,5 @@
 use borrow.Author.Needs.{needs}
-use Rattle.arcs.specs.Sweeps.{endsWithin}
+use Rattle.arcs.specs.Sweep.{endsWithin}
 use Rattle.arcs.proofs.sweep.ends_within.Statement.{statement}
 use Rattle.arcs.proofs.sweep.ends_within.Tie as tie
 

@@ -1,5 +1,5 @@
 use borrow.Author.Needs.{needs}
-use Rattle.arcs.specs.Sweeps.{sweepC}
+use Rattle.arcs.specs.Sweep.{sweepC}
 use Rattle.arcs.specs.SweepLaws.{sweep-refusal}
 use mathlib.Core.Path.{sym, _∙_}
 use Rattle.arcs.proofs.sweep.sweep.Statement.{statement}

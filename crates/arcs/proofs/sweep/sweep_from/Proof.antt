@@ -1,5 +1,5 @@
 use borrow.Author.Needs.{needs}
-use Rattle.arcs.specs.Sweeps.{sweepFromC}
+use Rattle.arcs.specs.Sweep.{sweepFromC}
 use Rattle.checked.specs.Laws.{first-assoc}
 use Rattle.arcs.specs.SweepLaws.{sweepFrom-refusal}
 use mathlib.Core.Path.{sym, _∙_}

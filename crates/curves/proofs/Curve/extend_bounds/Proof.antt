@@ -49,9 +49,9 @@ use Rattle.vectors.proofs.Vec3.Laws as Vec3-laws
 use Rattle.boxes.specs.declared.Bounds.{Bounds}
 use Rattle.boxes.proofs.Bounds as Bounds-type
 use Rattle.boxes.proofs.Bounds.Laws as Bounds-laws
-use Rattle.boxes.specs.declared.Outcome.{Outcome}
-use Rattle.boxes.proofs.Outcome as Outcome-type
-use Rattle.boxes.proofs.Outcome.Laws as Outcome-laws
+use Rattle.boxes.specs.declared.BoxOutcome.{BoxOutcome}
+use Rattle.boxes.proofs.BoxOutcome as BoxOutcome-type
+use Rattle.boxes.proofs.BoxOutcome.Laws as BoxOutcome-laws
 use Rattle.boxes.specs.Boxes.{outcome}
 use Rattle.curves.specs.Entries.{extendDue}
 use Rattle.curves.proofs.Curve.outcome as step
@@ -70,7 +70,7 @@ function-of τ0 τ1 τ2 = record {
   lifetimes = 1;
   outlives = [];
   params = 4;
-  locals = local (tyInt w8) valueLocal ∷ local τ0 valueLocal ∷ local τ1 valueLocal ∷ local τ2 valueLocal ∷ local (tyRef (named 0) mut (Bounds-type.the-row .written .ty)) valueLocal ∷ local Outcome-laws.mir valueLocal ∷ local Bounds-laws.mir valueLocal ∷ [];
+  locals = local (tyInt w8) valueLocal ∷ local τ0 valueLocal ∷ local τ1 valueLocal ∷ local τ2 valueLocal ∷ local (tyRef (named 0) mut (Bounds-type.the-row .written .ty)) valueLocal ∷ local BoxOutcome-laws.mir valueLocal ∷ local Bounds-laws.mir valueLocal ∷ [];
   body = seq (assign (place 6 []) (rvOpd (copy (place 4 (deref Bounds-laws.mir ∷ [])))))
       (seq (call #curves·Curve·outcome (copy (place 1 []) ∷ copy (place 2 []) ∷ copy (place 3 []) ∷ copy (place 6 []) ∷ []) (place 5 []))
       (seq (assign (place 4 (deref Bounds-laws.mir ∷ [])) (rvOpd (copy (place 5 (field 0 ∷ [])))))
@@ -83,19 +83,19 @@ abbrev Bounds-spelled : Bounds → Val
 Bounds-spelled x = only (LL.vals Bounds-type.the-type Bounds-laws.the-laws x)
 
 -- what a value at some machine values tells of its parts
-kept : (l : Outcome) {vs : List Val} → Is Outcome-type.the-row l vs → Is Bounds-type.the-row (l .bounds) (Bounds-spelled (l .bounds) ∷ [])
-kept l {vs} is = LL.owed Outcome-type.the-type Outcome-laws.the-laws l vs is .0
+kept : (l : BoxOutcome) {vs : List Val} → Is BoxOutcome-type.the-row l vs → Is Bounds-type.the-row (l .bounds) (Bounds-spelled (l .bounds) ∷ [])
+kept l {vs} is = LL.owed BoxOutcome-type.the-type BoxOutcome-laws.the-laws l vs is .0
 
-number-of : (l : Outcome) {vs : List Val} → Is Outcome-type.the-row l vs → Is u8 (l .number) (vint w8 (l .number) ∷ [])
-number-of l {vs} is = LL.owed Outcome-type.the-type Outcome-laws.the-laws l vs is .1 .0
+number-of : (l : BoxOutcome) {vs : List Val} → Is BoxOutcome-type.the-row l vs → Is u8 (l .number) (vint w8 (l .number) ∷ [])
+number-of l {vs} is = LL.owed BoxOutcome-type.the-type BoxOutcome-laws.the-laws l vs is .1 .0
 
 -- Fact: what is known of what the call gives; Back: what is had once it has returned
 module _ {M : Type 1} (𝓤 : URA M) (H : Heap 𝓤) (A : Atoms 𝓤) (W : Given 𝓤 H A) (C : Calls 𝓤 H) (Λ : Loops 𝓤 H) (fm : FmC 𝓤 H (W .laws) C) (κ : Lft) (q : Share) (b o : ℕ) (γ : GName) (the-bounds : Bounds)
     (τ0 τ1 τ2 : Ty) (v0 v1 v2 : Val) (typed0 : T (hasTy τ0 v0) × WT v0) (typed1 : T (hasTy τ1 v1) × WT v1) (typed2 : T (hasTy τ2 v2) × WT v2)
-    (Fact : Outcome → Type 0) (Back Post : Val → SProp 𝓤)
+    (Fact : BoxOutcome → Type 0) (Back Post : Val → SProp 𝓤)
     (calls : Is Bounds-type.the-row the-bounds (Bounds-spelled the-bounds ∷ []) → ent 𝓤 (emp 𝓤) (C #curves·Curve·outcome (v0 ∷ v1 ∷ v2 ∷ Bounds-spelled the-bounds ∷ []) Back))
-    (gives : (v : Val) → ent 𝓤 (Back v) (mean 𝓤 H A (later (some (λ (l : Outcome). ‵ (Outcome-type.the-row .own l (v ∷ [])) ⊛ raw (fact 𝓤 (Fact l)))))))
-    (ends : (l : Outcome) → Fact l → Is u8 (l .number) (vint w8 (l .number) ∷ []) → ent 𝓤 (sep 𝓤 (A .obs γ (Bounds-type.the-row .coded .code (l .bounds))) (sep 𝓤 (A .bor κ (Body (mem Bounds-type.the-row) b o γ)) (A .lft κ q))) (Post (vint w8 (l .number))))
+    (gives : (v : Val) → ent 𝓤 (Back v) (mean 𝓤 H A (later (some (λ (l : BoxOutcome). ‵ (BoxOutcome-type.the-row .own l (v ∷ [])) ⊛ raw (fact 𝓤 (Fact l)))))))
+    (ends : (l : BoxOutcome) → Fact l → Is u8 (l .number) (vint w8 (l .number) ∷ []) → ent 𝓤 (sep 𝓤 (A .obs γ (Bounds-type.the-row .coded .code (l .bounds))) (sep 𝓤 (A .bor κ (Body (mem Bounds-type.the-row) b o γ)) (A .lft κ q))) (Post (vint w8 (l .number))))
   where
     walk : ent 𝓤 (sep 𝓤 (A .obs γ (Bounds-type.the-row .coded .code the-bounds)) (sep 𝓤 (A .bor κ (Body (mem Bounds-type.the-row) b o γ)) (A .lft κ q))) (WpFn 𝓤 H C Λ (function-of τ0 τ1 τ2) (v0 ∷ v1 ∷ v2 ∷ vptr b o ∷ []) Post)
     walk =
@@ -111,11 +111,11 @@ module _ {M : Type 1} (𝓤 : URA M) (H : Heap 𝓤) (A : Atoms 𝓤) (W : Given
         assigns ! (of-opd ! (load ! (from ! (hop ! (look ! 9 refl) (stop !))) (look-raw ! 0 refl))) (from ! (stop !)) (init ! 5 refl (LL.lawful Bounds-type.the-type Bounds-laws.the-laws 𝓤 H A W .typed the-bounds _ was .0)) $
         nothing ! $
         calls-from ! fm (‵ ftrue) (v0 ∷ v1 ∷ v2 ∷ Bounds-spelled the-bounds ∷ []) Back (calls was) (and-then ! (load ! (from ! (stop !)) (look ! 16 refl)) (and-then ! (load ! (from ! (stop !)) (look ! 14 refl)) (and-then ! (load ! (from ! (stop !)) (look ! 12 refl)) (and-then ! (load ! (from ! (stop !)) (look ! 6 refl)) (no-more !))))) (λ v.
-        use1 W (later (some (λ (l : Outcome). ‵ (Outcome-type.the-row .own l (v ∷ [])) ⊛ raw (fact 𝓤 (Fact l))))) (gives v) $ await ! tt $ pick ! (λ l.
+        use1 W (later (some (λ (l : BoxOutcome). ‵ (BoxOutcome-type.the-row .own l (v ∷ [])) ⊛ raw (fact 𝓤 (Fact l))))) (gives v) $ await ! tt $ pick ! (λ l.
         split ! $ move ! (1 ∷ []) $ heard ! (Fact l) (λ e.
-        peeks ! Outcome-type.the-row (Is Outcome-type.the-row) (shows 𝓤 H A Outcome-type.the-row) l (v ∷ []) (λ is.
-        land ! (from ! (stop !)) (init ! 8 refl (LL.lawful Outcome-type.the-type Outcome-laws.the-laws 𝓤 H A W .typed l _ is .0)) $
-        rewrite ! 8 (λ (u : Val). ‵ (fat fullShare Outcome-laws.mir l5 0 u)) (ap only ((LL.tells Outcome-type.the-type Outcome-laws.the-laws) l (v ∷ []) is)) refl $ drop ! $
+        peeks ! BoxOutcome-type.the-row (Is BoxOutcome-type.the-row) (shows 𝓤 H A BoxOutcome-type.the-row) l (v ∷ []) (λ is.
+        land ! (from ! (stop !)) (init ! 8 refl (LL.lawful BoxOutcome-type.the-type BoxOutcome-laws.the-laws 𝓤 H A W .typed l _ is .0)) $
+        rewrite ! 8 (λ (u : Val). ‵ (fat fullShare BoxOutcome-laws.mir l5 0 u)) (ap only ((LL.tells BoxOutcome-type.the-type BoxOutcome-laws.the-laws) l (v ∷ []) is)) refl $ drop ! $
         assigns ! (of-opd ! (load ! (from ! (fld ! refl (stop !))) (look-in ! 7 (sub ! 0 refl (whole !))))) (from ! (hop ! (look ! 9 refl) (stop !))) (store-raw ! 0 refl (LL.lawful Bounds-type.the-type Bounds-laws.the-laws 𝓤 H A W .typed (l .bounds) _ (kept l is) .0)) $
         assigns ! (of-opd ! (load ! (from ! (fld ! refl (stop !))) (look-in ! 7 (sub ! 1 refl (whole !))))) (from ! (stop !)) (init ! 17 refl (tt, record { fits = number-of l is .1 })) $
         move ! (1 ∷ []) $ drop ! $ owned ! Bounds-type.the-row (Is Bounds-type.the-row) (LL.makes Bounds-type.the-type Bounds-laws.the-plain 𝓤 H A) (l .bounds) _ (kept l is) $ move ! (1 ∷ 0 ∷ []) $ closes ! tt Bounds-type.the-row (l .bounds) (Bounds-spelled (l .bounds) ∷ []) b o $
@@ -141,7 +141,7 @@ module _ {M : Type 1} (𝓤 : URA M) (H : Heap 𝓤) (A : Atoms 𝓤) (W : Given
   abbrev to-step : StepC 𝓤 H A at-mem run .Ghost
   to-step = ((tt, tt, tt, (the-self, (the-from, (the-to, (the-bounds, tt)))), (v0 ∷ [], (v1 ∷ [], (v2 ∷ [], (Bounds-spelled the-bounds ∷ [], tt))))), tt)
 
-  abbrev Given-by : Outcome → Type 0
+  abbrev Given-by : BoxOutcome → Type 0
   Given-by l = l ≡ outcome the-bounds (extendDue the-self the-from the-to the-bounds)
 
   -- what the call asks, from what is known of each value
@@ -154,14 +154,14 @@ module _ {M : Type 1} (𝓤 : URA M) (H : Heap 𝓤) (A : Atoms 𝓤) (W : Given
       owned ! Curve-type.the-row (Is Curve-type.the-row) (EL.makes Curve-type.the-type Curve-laws.the-plain 𝓤 H A) the-self _ is0 $ fjoin ! $ nothing ! $ join ! $ frame ! $ done !
 
   -- what it gives
-  ensures-it : (l : Outcome) → ent 𝓤 (ensured 𝓤 H A step.ended (step.clauses 𝓤 H A at-mem run) tt (the-self, (the-from, (the-to, (the-bounds, tt)))) tt l) (fact 𝓤 (Given-by l))
+  ensures-it : (l : BoxOutcome) → ent 𝓤 (ensured 𝓤 H A step.ended (step.clauses 𝓤 H A at-mem run) tt (the-self, (the-from, (the-to, (the-bounds, tt)))) tt l) (fact 𝓤 (Given-by l))
   ensures-it l = exE 𝓤 _ (λ ws. snd∗ 𝓤 (sem 𝓤 H A (lasts step.ended tt (the-self, (the-from, (the-to, (the-bounds, tt)))) ws)) (fact 𝓤 (Given-by l)))
 
-  gives-back : (v : Val) → ent 𝓤 (StepC 𝓤 H A at-mem run .post to-step v) (mean 𝓤 H A (later (some (λ (l : Outcome). ‵ (Outcome-type.the-row .own l (v ∷ [])) ⊛ raw (fact 𝓤 (Given-by l))))))
+  gives-back : (v : Val) → ent 𝓤 (StepC 𝓤 H A at-mem run .post to-step v) (mean 𝓤 H A (later (some (λ (l : BoxOutcome). ‵ (BoxOutcome-type.the-row .own l (v ∷ [])) ⊛ raw (fact 𝓤 (Given-by l))))))
   gives-back v =
-      qed W (later (some (λ (l : Outcome). (‵ ftrue ⊛ ‵ (Outcome-type.the-row .own l (v ∷ []))) ⊛ raw (ensured 𝓤 H A step.ended (step.clauses 𝓤 H A at-mem run) tt (the-self, (the-from, (the-to, (the-bounds, tt)))) tt l))) ∷ []) ∵
+      qed W (later (some (λ (l : BoxOutcome). (‵ ftrue ⊛ ‵ (BoxOutcome-type.the-row .own l (v ∷ []))) ⊛ raw (ensured 𝓤 H A step.ended (step.clauses 𝓤 H A at-mem run) tt (the-self, (the-from, (the-to, (the-bounds, tt)))) tt l))) ∷ []) ∵
       updating ! $ await ! tt $ pick ! (λ l. split ! $ split ! $ drop ! $ move ! (1 ∷ []) $ use1 W (raw (fact 𝓤 (Given-by l))) (ensures-it l) $ move ! (1 ∷ 0 ∷ []) $
-      at-once ! $ show ! (λ (m : Outcome). sep 𝓤 (sem 𝓤 H A (Outcome-type.the-row .own m (v ∷ []))) (fact 𝓤 (Given-by m))) l $ done !)
+      at-once ! $ show ! (λ (m : BoxOutcome). sep 𝓤 (sem 𝓤 H A (BoxOutcome-type.the-row .own m (v ∷ []))) (fact 𝓤 (Given-by m))) l $ done !)
 
   module _ (κ : Lft) (q : Share) (b o : ℕ) (γ : GName) where
     abbrev x : Arg
@@ -178,11 +178,11 @@ module _ {M : Type 1} (𝓤 : URA M) (H : Heap 𝓤) (A : Atoms 𝓤) (W : Given
         qed W ((‵ (flft κ q) ⊛ ‵ ftrue) ∷ ‵ (owns (Curve-type.the-row ∷ Vec3-type.the-row ∷ Vec3-type.the-row ∷ MutRef (named 0) κ Bounds-type.the-row ∷ []) x at) ∷ []) ∵
         split ! $ move ! (2 ∷ []) $ fsplit ! $ drop ! $ fsplit ! $ drop ! $ fsplit ! $ drop ! $ fsplit ! $ fsplit3 ! $ drop ! $ keep ! (0 ∷ 1 ∷ 3 ∷ []) $ done !
 
-    exits : (l : Outcome) → Given-by l → Is u8 (l .number) (vint w8 (l .number) ∷ []) → ent 𝓤 (sep 𝓤 (A .obs γ (Bounds-type.the-row .coded .code (l .bounds))) (sep 𝓤 (A .bor κ (Body (mem Bounds-type.the-row) b o γ)) (A .lft κ q))) (Post (vint w8 (l .number)))
+    exits : (l : BoxOutcome) → Given-by l → Is u8 (l .number) (vint w8 (l .number) ∷ []) → ent 𝓤 (sep 𝓤 (A .obs γ (Bounds-type.the-row .coded .code (l .bounds))) (sep 𝓤 (A .bor κ (Body (mem Bounds-type.the-row) b o γ)) (A .lft κ q))) (Post (vint w8 (l .number)))
     exits l e ok =
         qed W (‵ (fobs γ (Bounds-type.the-row .coded .code (l .bounds))) ∷ ‵ (fbor κ (Body (mem Bounds-type.the-row) b o γ)) ∷ ‵ (flft κ q) ∷ []) ∵
         suffices ! _ (ends-at 𝓤 H A f.ended stayed (f.clauses 𝓤 H A at-mem run) W (((κ, tt), (q, tt), tt, x, at), tt) (vint w8 (l .number)) (l .number) (tt, (tt, (tt, (l .bounds, tt)))) (tt, (tt, (tt, (tt, tt))))) $
-        says ! (record { says = ap (λ (m : Outcome). m .number) e; leaves = ap (λ (m : Outcome). m .bounds) e }) $ nothing ! $ move ! (3 ∷ 0 ∷ []) $ join ! $ frame ! $
+        says ! (record { says = ap (λ (m : BoxOutcome). m .number) e; leaves = ap (λ (m : BoxOutcome). m .bounds) e }) $ nothing ! $ move ! (3 ∷ 0 ∷ []) $ join ! $ frame ! $
         feqI ! (List Val) (vptr b o ∷ []) (vptr b o ∷ []) refl $ fjoin3 ! $ nothing ! $
         move ! (1 ∷ 0 ∷ []) $ fjoin ! $ nothing ! $ fjoin ! $ nothing ! $ fjoin ! $ nothing ! $ fjoin ! $
         owned ! u8 (Is u8) (uint-makes 𝓤 H A W w8) (l .number) _ ok $ move ! (1 ∷ 0 ∷ []) $ done !

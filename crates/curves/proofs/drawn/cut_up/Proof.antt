@@ -1,5 +1,5 @@
 use borrow.Author.Needs.{needs}
-use Rattle.curves.specs.DrawnEntries.{chordsOf, ready}
+use Rattle.curves.specs.Drawn.{chordsOf, ready}
 use Rattle.curves.proofs.drawn.cut_up.Statement.{statement}
 use Rattle.curves.proofs.drawn.cut_up.Tie as tie
 

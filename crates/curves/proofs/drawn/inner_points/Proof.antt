@@ -1,6 +1,6 @@
 use Prim.Native.Nat.{_*_, _≤_}
 use lib.ListN.{length}
-use Rattle.curves.specs.DrawnEntries.{innerPointsDue}
+use Rattle.curves.specs.Drawn.{innerPointsDue}
 use mathlib.Core.Path.{sym}
 use lib.Seq.{length-take-le}
 use Rattle.rows.specs.Rows.{point}

@@ -1,5 +1,5 @@
 use borrow.Author.Needs.{needs}
-use Rattle.curves.specs.DrawnEntries.{tests}
+use Rattle.curves.specs.Drawn.{tests}
 use Rattle.curves.proofs.drawn.tried.Statement.{statement}
 use Rattle.curves.proofs.drawn.tried.Tie as tie
 

@@ -1,5 +1,5 @@
 use borrow.Author.Needs.{needs}
-use Rattle.curves.specs.DrawnEntries.{innerPointsDue}
+use Rattle.curves.specs.Drawn.{innerPointsDue}
 use Rattle.curves.proofs.drawn.write_inner_points.Statement.{statement}
 use Rattle.curves.proofs.drawn.write_inner_points.Tie as tie
 

@@ -5,7 +5,7 @@ use Rattle.checked.specs.Laws.{settled-none, settled-some}
 use Rattle.checked.specs.TestsLaws.{passing-none}
 use Rattle.rows.specs.Rows.{point}
 use Rattle.rows.specs.Laws.{drawn-refused, drawn-failed}
-use Rattle.curves.specs.DrawnEntries.{chordsOf, pieceDue}
+use Rattle.curves.specs.Drawn.{chordsOf, pieceDue}
 use Rattle.curves.proofs.drawn.write_piece.Statement.{statement}
 use Rattle.curves.proofs.drawn.write_piece.Tie as tie
 

@@ -1,5 +1,5 @@
 use borrow.Author.Needs.{needs}
-use Rattle.developments.specs.Rolls.{alongC}
+use Rattle.developments.specs.Formulas.{alongC}
 use Rattle.developments.specs.Laws.{along-refusal}
 use mathlib.Core.Path.{sym, _∙_}
 use Rattle.developments.proofs.formulas.along.Statement.{statement}

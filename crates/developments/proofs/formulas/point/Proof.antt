@@ -1,5 +1,5 @@
 use borrow.Author.Needs.{needs}
-use Rattle.developments.specs.Rolls.{pointC}
+use Rattle.developments.specs.Formulas.{pointC}
 use Rattle.checked.specs.Laws.{first-assoc, zero-first}
 use Rattle.developments.specs.Laws.{point-refusal}
 use mathlib.Core.Path.{sym, _∙_}

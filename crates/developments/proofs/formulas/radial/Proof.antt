@@ -1,5 +1,5 @@
 use borrow.Author.Needs.{needs}
-use Rattle.developments.specs.Rolls.{radialC}
+use Rattle.developments.specs.Formulas.{radialAtC}
 use Rattle.checked.specs.Laws.{first-assoc}
 use Rattle.developments.specs.Laws.{radial-refusal}
 use mathlib.Core.Path.{sym, _∙_}
@@ -25,7 +25,7 @@ noted-requires : tie.Need-noted-requires
 noted-requires c κs = search needs
 
 returns : tie.Need-returns
-unfolding radialC
+unfolding radialAtC
 returns c = ((simp (c .noted .ensures, c .before .plus .ensures, c .before .before .times2 .ensures, c .before .before .before .cross .ensures, c .before .before .before .before .times .ensures, c .before .before .before .before .before .sincos .ensures .0, c .before .before .before .before .before .sincos .ensures .1 .0, c .before .before .before .before .before .sincos .ensures .1 .1, first-assoc)) ∙ sym (radial-refusal (c .before .before .before .before .before .before .args .axis) (c .before .before .before .before .before .before .args .start) (c .before .before .before .before .before .before .args .neutral) (c .before .before .before .before .before .before .args .u)), simp (c .before .plus .ensures, c .before .before .times2 .ensures, c .before .before .before .cross .ensures, c .before .before .before .before .times .ensures, c .before .before .before .before .before .sincos .ensures .1 .0, c .before .before .before .before .before .sincos .ensures .1 .1))
 
 pub radial-spec : {M : Type 1} → statement M

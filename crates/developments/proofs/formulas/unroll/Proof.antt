@@ -1,5 +1,5 @@
 use borrow.Author.Needs.{needs}
-use Rattle.developments.specs.Rolls.{unrollC}
+use Rattle.developments.specs.Formulas.{unrollC}
 use Rattle.checked.specs.Laws.{first-assoc, zero-first}
 use Rattle.developments.specs.Laws.{unroll-refusal}
 use mathlib.Core.Path.{sym, _∙_}

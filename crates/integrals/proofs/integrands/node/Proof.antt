@@ -5,8 +5,8 @@ use Rattle.integrals.specs.IntegrandsLaws.{node-refusal, node-value}
 use Rattle.integrals.proofs.integrands.node.Statement.{statement}
 use Rattle.integrals.proofs.integrands.node.Tie as tie
 
-bearing-at-requires : tie.Need-bearing-at-requires
-bearing-at-requires c κs = search needs
+radial-normal-at-requires : tie.Need-radial-normal-at-requires
+radial-normal-at-requires c κs = search needs
 
 patch-requires : tie.Need-patch-requires
 patch-requires c κs = search needs
@@ -29,7 +29,7 @@ noted-requires c κs = search needs
 returns : tie.Need-returns
 unfolding weightC
 returns c =
-    let b = c .before .before .before .before .before .before .before .before .before .before .before .bearing-at .ensures in
+    let b = c .before .before .before .before .before .before .before .before .before .before .before .radial-normal-at .ensures in
     let f₀ = c .before .before .before .before .before .before .patch .ensures in
     let f₁ = c .before .before .before .before .patch2 .ensures in
     let f₂ = c .before .before .before .patch3 .ensures in
@@ -40,7 +40,7 @@ pub node-spec : {M : Type 1} → statement M
 node-spec =
     tie.close
     (tie.spec
-    bearing-at-requires
+    radial-normal-at-requires
     patch-requires
     patch-requires-2
     patch-requires-3

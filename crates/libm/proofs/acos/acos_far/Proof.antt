@@ -1,5 +1,5 @@
 use borrow.Author.Needs.{needs}
-use Rattle.libm.specs.Arccosine.{acosFar}
+use Rattle.libm.specs.Acos.{acosFar}
 use borrow.Author.Tests.{eq-eqb, ne-eqb}
 use Rattle.libm.proofs.acos.acos_far.Statement.{statement}
 use Rattle.libm.proofs.acos.acos_far.Tie as tie

@@ -1,5 +1,5 @@
 use borrow.Author.Needs.{needs}
-use Rattle.libm.specs.Arccosine.{acosNear}
+use Rattle.libm.specs.Acos.{acosNear}
 use borrow.Author.Tests.{le-leb, lt-leb}
 use Rattle.libm.proofs.acos.acos_near.Statement.{statement}
 use Rattle.libm.proofs.acos.acos_near.Tie as tie

@@ -3,7 +3,7 @@ use lib.Dec.{T}
 use lib.Ieee.{binary64, fits}
 use Rattle.float_bits.specs.Laws.{sign-most}
 use borrow.Author.Needs.{needs}
-use Rattle.libm.specs.Arctangent.{angle}
+use Rattle.libm.specs.Atan2.{angle}
 use borrow.Author.Tests.{eq-eqb, ne-eqb}
 use mathlib.Core.Path.{sym, _∙_, subst}
 use Rattle.libm.proofs.atan2.angle.Statement.{statement}

@@ -1,5 +1,5 @@
 use borrow.Author.Needs.{needs}
-use Rattle.libm.specs.Arctangent.{atan2}
+use Rattle.libm.specs.Atan2.{atan2}
 use mathlib.Core.Path.{sym, _∙_}
 use Rattle.libm.proofs.atan2.atan2.Statement.{statement}
 use Rattle.libm.proofs.atan2.atan2.Tie as tie

@@ -1,5 +1,5 @@
 use borrow.Author.Needs.{needs}
-use Rattle.libm.specs.Arctangent.{isOne}
+use Rattle.libm.specs.Atan2.{isOne}
 use Rattle.libm.proofs.atan2.is_one.Statement.{statement}
 use Rattle.libm.proofs.atan2.is_one.Tie as tie
 

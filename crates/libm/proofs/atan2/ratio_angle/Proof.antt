@@ -1,5 +1,5 @@
 use borrow.Author.Needs.{needs}
-use Rattle.libm.specs.Arctangent.{ratioAngle}
+use Rattle.libm.specs.Atan2.{ratioAngle}
 use Rattle.libm.proofs.atan2.ratio_angle.Statement.{statement}
 use Rattle.libm.proofs.atan2.ratio_angle.Tie as tie
 

@@ -1,4 +1,4 @@
-use Rattle.libm.specs.Hypotenuse.{greater}
+use Rattle.libm.specs.Hypot.{greater}
 use borrow.Author.Tests.{lt-ltb, le-ltb}
 use Rattle.libm.proofs.hypot.greater.Statement.{statement}
 use Rattle.libm.proofs.hypot.greater.Tie as tie

@@ -1,6 +1,6 @@
 use Rattle.float_bits.specs.Laws.{gap-yes, gap-no}
 use borrow.Author.Needs.{needs}
-use Rattle.libm.specs.Hypotenuse.{hypotOrdered}
+use Rattle.libm.specs.Hypot.{hypotOrdered}
 use borrow.Author.Tests.{lt-ltb, le-ltb, eq-eqb, ne-eqb}
 use Rattle.libm.proofs.hypot.hypot_ordered.Statement.{statement}
 use Rattle.libm.proofs.hypot.hypot_ordered.Tie as tie

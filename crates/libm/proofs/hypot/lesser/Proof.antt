@@ -1,4 +1,4 @@
-use Rattle.libm.specs.Hypotenuse.{lesser}
+use Rattle.libm.specs.Hypot.{lesser}
 use borrow.Author.Tests.{lt-ltb, le-ltb}
 use Rattle.libm.proofs.hypot.lesser.Statement.{statement}
 use Rattle.libm.proofs.hypot.lesser.Tie as tie

@@ -1,7 +1,7 @@
 use Rattle.float_bits.specs.Laws.{gap-yes, gap-no}
 use Rattle.libm.proofs.rem_pio2.Quarters.{tmp-no-nan, tmp-ends}
 use borrow.Author.Needs.{needs}
-use Rattle.libm.specs.Reduction.{medium}
+use Rattle.libm.specs.RemPio2.{medium}
 use Rattle.libm.proofs.rem_pio2.medium.Statement.{statement}
 use Rattle.libm.proofs.rem_pio2.medium.Tie as tie
 

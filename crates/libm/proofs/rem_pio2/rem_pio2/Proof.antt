@@ -1,5 +1,5 @@
 use borrow.Author.Needs.{needs}
-use Rattle.libm.specs.Reduction.{remPio2}
+use Rattle.libm.specs.RemPio2.{remPio2}
 use borrow.Author.Tests.{le-leb, lt-leb}
 use Rattle.libm.proofs.rem_pio2.rem_pio2.Statement.{statement}
 use Rattle.libm.proofs.rem_pio2.rem_pio2.Tie as tie

@@ -1,6 +1,6 @@
 use Rattle.float_bits.specs.Laws.{gap-yes, gap-no}
 use borrow.Author.Needs.{needs}
-use Rattle.libm.specs.Reduction.{secondRound}
+use Rattle.libm.specs.RemPio2.{secondRound}
 use Rattle.libm.proofs.rem_pio2.second_round.Statement.{statement}
 use Rattle.libm.proofs.rem_pio2.second_round.Tie as tie
 

@@ -1,5 +1,5 @@
 use borrow.Author.Needs.{needs}
-use Rattle.libm.specs.Reduction.{toFive}
+use Rattle.libm.specs.RemPio2.{toFive}
 use borrow.Author.Tests.{le-leb, lt-leb, eq-eqb, ne-eqb}
 use Rattle.libm.proofs.rem_pio2.to_five.Statement.{statement}
 use Rattle.libm.proofs.rem_pio2.to_five.Tie as tie

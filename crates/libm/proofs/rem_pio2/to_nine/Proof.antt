@@ -1,5 +1,5 @@
 use borrow.Author.Needs.{needs}
-use Rattle.libm.specs.Reduction.{toNine}
+use Rattle.libm.specs.RemPio2.{toNine}
 use borrow.Author.Tests.{le-leb, lt-leb, eq-eqb, ne-eqb}
 use Rattle.libm.proofs.rem_pio2.to_nine.Statement.{statement}
 use Rattle.libm.proofs.rem_pio2.to_nine.Tie as tie

@@ -1,5 +1,5 @@
 use borrow.Author.Needs.{needs}
-use Rattle.libm.specs.Circle.{sines}
+use Rattle.libm.specs.Sincos.{sines}
 use borrow.Author.Tests.{le-leb, lt-leb}
 use Rattle.libm.proofs.sincos.both_sines.Statement.{statement}
 use Rattle.libm.proofs.sincos.both_sines.Tie as tie

@@ -1,5 +1,5 @@
 use borrow.Author.Needs.{needs}
-use Rattle.libm.specs.Circle.{sine}
+use Rattle.libm.specs.Sincos.{sine}
 use borrow.Author.Tests.{le-leb, lt-leb}
 use Rattle.libm.proofs.sincos.sine.Statement.{statement}
 use Rattle.libm.proofs.sincos.sine.Tie as tie

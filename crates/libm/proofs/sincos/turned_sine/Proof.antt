@@ -1,6 +1,6 @@
-use Rattle.float_bits.specs.Words.{choose}
+use Rattle.float_bits.specs.FloatBits.{choose}
 use borrow.Author.Needs.{needs}
-use Rattle.libm.specs.Circle.{turnedSine}
+use Rattle.libm.specs.Sincos.{turnedSine}
 use borrow.Author.Tests.{eq-eqb, ne-eqb}
 use Rattle.libm.proofs.sincos.turned_sine.Statement.{statement}
 use Rattle.libm.proofs.sincos.turned_sine.Tie as tie

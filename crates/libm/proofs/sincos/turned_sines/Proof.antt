@@ -1,5 +1,5 @@
 use borrow.Author.Needs.{needs}
-use Rattle.libm.specs.Circle.{turnedSines}
+use Rattle.libm.specs.Sincos.{turnedSines}
 use Rattle.libm.proofs.sincos.turned_sines.Statement.{statement}
 use Rattle.libm.proofs.sincos.turned_sines.Tie as tie
 

@@ -1,5 +1,5 @@
 use borrow.Author.Needs.{needs}
-use Rattle.meets.specs.Reaches.{aheadC}
+use Rattle.meets.specs.Generatrix.{alongGeneratrixC}
 use Rattle.meets.proofs.generatrix.ahead.Statement.{statement}
 use Rattle.meets.proofs.generatrix.ahead.Tie as tie
 
@@ -10,7 +10,7 @@ plus-requires : tie.Need-plus-requires
 plus-requires c κs = search needs
 
 returns : tie.Need-returns
-unfolding aheadC
+unfolding alongGeneratrixC
 returns c = simp (c .plus .ensures, c .before .times .ensures)
 
 pub ahead-spec : {M : Type 1} → statement M

@@ -1,5 +1,5 @@
 use borrow.Author.Needs.{needs}
-use Rattle.meets.specs.Reaches.{bendC}
+use Rattle.meets.specs.Generatrix.{secondDerivativesC}
 use Rattle.checked.specs.Laws.{zero-first}
 use Rattle.meets.specs.GeneratrixLaws.{bend-refusal}
 use mathlib.Core.Path.{sym, _∙_}
@@ -25,7 +25,7 @@ note-requires : tie.Need-note-requires
 note-requires c κs = search needs
 
 returns : tie.Need-returns
-unfolding bendC
+unfolding secondDerivativesC
 returns c = ((simp (c .note .ensures, c .before .before .before .before .before .before .before .before .dot3 .ensures, c .before .before .before .before .before .before .before .before .before .dot2 .ensures, c .before .before .before .before .before .before .before .before .before .before .dot .ensures, c .before .before .before .before .before .before .before .before .before .before .before .across .ensures, c .before .before .before .before .before .before .before .before .before .before .before .before .times .ensures, zero-first)) ∙ sym (bend-refusal (c .before .before .before .before .before .before .before .before .before .before .before .before .before .before .args .p) (c .before .before .before .before .before .before .before .before .before .before .before .before .before .before .args .h) (c .before .before .before .before .before .before .before .before .before .before .before .before .before .before .args .v)), simp (c .before .before .before .before .before .before .before .before .dot3 .ensures, c .before .before .before .before .before .before .before .before .before .dot2 .ensures, c .before .before .before .before .before .before .before .before .before .before .dot .ensures, c .before .before .before .before .before .before .before .before .before .before .before .across .ensures, c .before .before .before .before .before .before .before .before .before .before .before .before .times .ensures))
 
 pub bend-at-spec : {M : Type 1} → statement M

@@ -1,5 +1,5 @@
 use borrow.Author.Needs.{needs}
-use Rattle.meets.specs.Pipes.{lesserC}
+use Rattle.meets.specs.Quadratic.{lesserC}
 use Rattle.checked.specs.Laws.{rules as checked-rules}
 use Rattle.meets.proofs.quadratic.lesser.Statement.{statement}
 use Rattle.meets.proofs.quadratic.lesser.Tie as tie

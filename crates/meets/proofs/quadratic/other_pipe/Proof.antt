@@ -1,5 +1,5 @@
 use borrow.Author.Needs.{needs}
-use Rattle.meets.specs.Pipes.{otherC}
+use Rattle.meets.specs.Quadratic.{otherC}
 use Rattle.meets.specs.QuadraticLaws.{other-refusal}
 use mathlib.Core.Path.{sym, _∙_}
 use Rattle.meets.proofs.quadratic.other_pipe.Statement.{statement}

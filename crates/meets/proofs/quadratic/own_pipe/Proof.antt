@@ -1,5 +1,5 @@
 use borrow.Author.Needs.{needs}
-use Rattle.meets.specs.Pipes.{ownC}
+use Rattle.meets.specs.Quadratic.{ownC}
 use Rattle.checked.specs.Laws.{zero-first}
 use Rattle.meets.specs.QuadraticLaws.{own-refusal}
 use mathlib.Core.Path.{sym, _∙_}

@@ -1,4 +1,4 @@
-use Rattle.piece_boxes.specs.Windows.{agree}
+use Rattle.piece_boxes.specs.Brackets.{agree}
 use Rattle.piece_boxes.proofs.brackets.agree.Statement.{statement}
 use Rattle.piece_boxes.proofs.brackets.agree.Tie as tie
 

@@ -1,5 +1,5 @@
 use borrow.Author.Needs.{needs}
-use Rattle.piece_boxes.specs.Windows.{chosen}
+use Rattle.piece_boxes.specs.Brackets.{chosen}
 use Rattle.piece_boxes.proofs.brackets.chosen.Statement.{statement}
 use Rattle.piece_boxes.proofs.brackets.chosen.Tie as tie
 

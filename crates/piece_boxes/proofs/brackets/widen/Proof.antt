@@ -1,5 +1,5 @@
 use borrow.Author.Needs.{needs}
-use Rattle.piece_boxes.specs.Windows.{widened}
+use Rattle.piece_boxes.specs.Brackets.{widened}
 use Rattle.piece_boxes.proofs.brackets.widen.Statement.{statement}
 use Rattle.piece_boxes.proofs.brackets.widen.Tie as tie
 

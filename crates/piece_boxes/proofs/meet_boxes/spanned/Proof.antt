@@ -27,8 +27,8 @@ add-at c = omega arith
 at-requires-2 : tie.Need-at-requires-2 Inv-loop μ-loop
 at-requires-2 c κs = omega arith
 
-window-requires : tie.Need-window-requires Inv-loop μ-loop
-window-requires c κs = omega arith
+bracketed-requires : tie.Need-bracketed-requires Inv-loop μ-loop
+bracketed-requires c κs = omega arith
 
 at-requires-3 : tie.Need-at-requires-3 Inv-loop μ-loop
 at-requires-3 c κs = omega arith
@@ -39,8 +39,8 @@ add-at-2 c = omega arith
 at-requires-4 : tie.Need-at-requires-4 Inv-loop μ-loop
 at-requires-4 c κs = omega arith
 
-window-requires-2 : tie.Need-window-requires-2 Inv-loop μ-loop
-window-requires-2 c κs = omega arith
+bracketed-requires-2 : tie.Need-bracketed-requires-2 Inv-loop μ-loop
+bracketed-requires-2 c κs = omega arith
 
 earlier-requires : tie.Need-earlier-requires Inv-loop μ-loop
 earlier-requires c κs = search needs
@@ -61,7 +61,7 @@ loop-again c =
     let less = c .before .before .before .before .before .before .before .before .before .before .loop-test .taken in
     let d = done-more _ _ (at .k) (at .r) (at .b) (at .inv .1) in (
       omega (arith, less),
-      simp (c .earlier2 .ensures, c .before .earlier .ensures, c .before .before .before .window2 .ensures .0, c .before .before .before .window2 .ensures .1, c .before .before .before .before .at4 .ensures, c .before .before .before .before .before .at3 .ensures, c .before .before .before .before .before .before .before .window .ensures .0, c .before .before .before .before .before .before .before .window .ensures .1, c .before .before .before .before .before .before .before .before .at2 .ensures, c .before .before .before .before .before .before .before .before .before .at .ensures) (rw (span-refusal _ (at .k) (at .b) _ _ (start .pre) less, span-value _ (at .k) (at .b) _ _ (start .pre) less) at d),
+      simp (c .earlier2 .ensures, c .before .earlier .ensures, c .before .before .before .bracketed2 .ensures .0, c .before .before .before .bracketed2 .ensures .1, c .before .before .before .before .at4 .ensures, c .before .before .before .before .before .at3 .ensures, c .before .before .before .before .before .before .before .bracketed .ensures .0, c .before .before .before .before .before .before .before .bracketed .ensures .1, c .before .before .before .before .before .before .before .before .at2 .ensures, c .before .before .before .before .before .before .before .before .before .at .ensures) (rw (span-refusal _ (at .k) (at .b) _ _ (start .pre) less, span-value _ (at .k) (at .b) _ _ (start .pre) less) at d),
     )
 
 returns : tie.Need-returns Inv-loop μ-loop
@@ -81,11 +81,11 @@ spanned-spec =
     at-requires
     add-at
     at-requires-2
-    window-requires
+    bracketed-requires
     at-requires-3
     add-at-2
     at-requires-4
-    window-requires-2
+    bracketed-requires-2
     earlier-requires
     earlier-requires-2
     add-k

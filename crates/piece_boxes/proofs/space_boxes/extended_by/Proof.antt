@@ -1,5 +1,5 @@
 use borrow.Author.Needs.{needs}
-use Rattle.piece_boxes.specs.Bounds.{pointsC}
+use Rattle.piece_boxes.specs.SpaceBoxes.{pointsC}
 use Rattle.checked.specs.Laws.{rules as checked-rules}
 use Rattle.piece_boxes.proofs.space_boxes.extended_by.Statement.{statement}
 use Rattle.piece_boxes.proofs.space_boxes.extended_by.Tie as tie
@@ -10,12 +10,12 @@ uv-box-requires c κs = search needs
 earlier-requires : tie.Need-earlier-requires
 earlier-requires c κs = search needs
 
-with-rims-requires : tie.Need-with-rims-requires
-with-rims-requires c κs = search needs
+with-end-arcs-requires : tie.Need-with-end-arcs-requires
+with-end-arcs-requires c κs = search needs
 
 returns : tie.Need-returns
 unfolding pointsC
-returns c = (simp (c .with-rims .ensures .0, c .before .earlier .ensures, c .before .before .before .before .uv-box .ensures .0, c .before .before .before .before .uv-box .ensures .1, checked-rules), simp (c .with-rims .ensures .1, c .before .before .before .before .uv-box .ensures .1))
+returns c = (simp (c .with-end-arcs .ensures .0, c .before .earlier .ensures, c .before .before .before .before .uv-box .ensures .0, c .before .before .before .before .uv-box .ensures .1, checked-rules), simp (c .with-end-arcs .ensures .1, c .before .before .before .before .uv-box .ensures .1))
 
 pub extended-by-spec : {M : Type 1} → statement M
 extended-by-spec =
@@ -23,5 +23,5 @@ extended-by-spec =
     (tie.spec
     uv-box-requires
     earlier-requires
-    with-rims-requires
+    with-end-arcs-requires
     returns)

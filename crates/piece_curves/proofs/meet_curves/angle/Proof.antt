@@ -1,5 +1,5 @@
 use borrow.Author.Needs.{needs}
-use Rattle.piece_curves.specs.Courses.{angleC}
+use Rattle.piece_curves.specs.MeetCurves.{angleC}
 use Rattle.piece_curves.proofs.meet_curves.angle.Statement.{statement}
 use Rattle.piece_curves.proofs.meet_curves.angle.Tie as tie
 

@@ -1,5 +1,5 @@
 use borrow.Author.Needs.{needs}
-use Rattle.piece_curves.specs.Courses.{atC}
+use Rattle.piece_curves.specs.MeetCurves.{atC}
 use Rattle.checked.specs.Laws.{first-zero}
 use Rattle.piece_curves.specs.MeetCurvesLaws.{point-refusal, point-value}
 use Rattle.piece_curves.proofs.meet_curves.at.Statement.{statement}

@@ -1,4 +1,4 @@
-use Rattle.piece_curves.specs.Courses.{slopeUC}
+use Rattle.piece_curves.specs.MeetCurves.{slopeUC}
 use Rattle.checked.specs.Laws.{rules as checked-rules}
 use borrow.Author.Needs.{needs}
 use Rattle.piece_curves.proofs.meet_curves.motion.Statement.{statement}

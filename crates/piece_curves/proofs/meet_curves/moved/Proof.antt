@@ -2,8 +2,8 @@ use mathlib.Core.Path.{sym, _∙_}
 use borrow.Author.Needs.{needs}
 use Rattle.checked.specs.Laws.{first-assoc, zero-first}
 use Rattle.vectors.specs.Vectors.{plusC, timesC}
-use Rattle.meets.specs.Reaches.{aheadC, pointC}
-use Rattle.piece_curves.specs.Courses.{reachedC, spotC, slopeVC, aroundC}
+use Rattle.meets.specs.Generatrix.{alongGeneratrixC, pointC}
+use Rattle.piece_curves.specs.MeetCurves.{intersectionAtC, spotC, slopeVC, aroundC}
 use Rattle.piece_curves.specs.MeetCurvesLaws.{angle-nine, around-refusal, slopeV-refusal}
 use Rattle.piece_curves.proofs.meet_curves.moved.Statement.{statement}
 use Rattle.piece_curves.proofs.meet_curves.moved.Tie as tie
@@ -54,7 +54,7 @@ earlier-requires-3 : tie.Need-earlier-requires-3
 earlier-requires-3 c κs = search needs
 
 returns : tie.Need-returns
-unfolding reachedC spotC slopeVC aroundC pointC aheadC plusC timesC
+unfolding intersectionAtC spotC slopeVC aroundC pointC alongGeneratrixC plusC timesC
 returns c = (
   (simp (c .before .before .before .note4 .ensures, c .before .before .before .before .note3 .ensures, c .before .before .before .before .before .earlier2 .ensures, c .before .before .before .before .before .before .earlier .ensures, c .before .before .before .before .before .before .before .note2 .ensures, c .before .before .before .before .before .before .before .before .note .ensures, c .before .before .before .before .before .before .before .before .before .before .before .before .before .before .before .before .before .before .before .before .plus .ensures, c .before .before .before .before .before .before .before .before .before .before .before .before .before .before .before .before .before .before .before .before .before .times .ensures, c .before .before .before .before .before .before .before .before .before .before .before .before .before .before .before .before .before .before .before .before .before .before .before .before .before .speed-here .ensures .1, c .before .before .before .before .before .before .before .before .before .before .before .before .before .before .before .before .before .before .before .before .before .before .before .before .before .before .before .reach-here .ensures .1, c .before .before .before .before .before .before .before .before .before .before .before .before .before .before .before .before .before .before .before .before .before .before .before .before .before .before .before .before .before .angle .ensures, c .before .before .before .before .before .before .before .before .before .before .before .before .before .before .before .before .before .before .before .before .before .before .before .before .before .before .before .before .before .before .rate .ensures, c .before .before .before .before .before .before .before .before .before .before .before .before .before .before .before .before .before .before .before .before .before .before .before .before .before .speed-here .ensures .0, c .before .before .before .before .before .before .before .before .before .before .before .before .before .before .before .before .before .before .before .before .before .before .before .before .before .before .before .reach-here .ensures .0, first-assoc, zero-first)) ∙ sym (around-refusal (c .before .before .before .before .before .before .before .before .before .before .before .before .before .before .before .before .before .before .before .before .before .before .before .before .before .before .before .before .before .before .before .args .c) (c .before .before .before .before .before .before .before .before .before .before .before .before .before .before .before .before .before .before .before .before .before .before .before .before .before .before .before .before .before .before .before .args .t)),
   (

@@ -1,5 +1,5 @@
 use borrow.Author.Needs.{needs}
-use Rattle.piece_curves.specs.Courses.{nearC}
+use Rattle.piece_curves.specs.MeetCurves.{nearC}
 use Rattle.piece_curves.proofs.meet_curves.near.Statement.{statement}
 use Rattle.piece_curves.proofs.meet_curves.near.Tie as tie
 

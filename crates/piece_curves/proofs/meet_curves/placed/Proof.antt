@@ -1,5 +1,5 @@
 use borrow.Author.Needs.{needs}
-use Rattle.piece_curves.specs.Courses.{placedC}
+use Rattle.piece_curves.specs.MeetCurves.{placedC}
 use Rattle.checked.specs.Laws.{rules as checked-rules}
 use Rattle.piece_curves.specs.MeetCurvesLaws.{rules as courses-rules}
 use Rattle.piece_curves.proofs.meet_curves.placed.Statement.{statement}

@@ -1,5 +1,5 @@
 use borrow.Author.Needs.{needs}
-use Rattle.piece_curves.specs.Courses.{rateC}
+use Rattle.piece_curves.specs.MeetCurves.{rateC}
 use Rattle.piece_curves.proofs.meet_curves.rate.Statement.{statement}
 use Rattle.piece_curves.proofs.meet_curves.rate.Tie as tie
 

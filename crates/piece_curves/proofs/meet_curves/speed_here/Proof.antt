@@ -1,5 +1,5 @@
 use borrow.Author.Needs.{needs}
-use Rattle.meets.specs.Reaches.{speedC}
+use Rattle.meets.specs.Generatrix.{firstDerivativesC}
 use Rattle.checked.specs.Laws.{zero-first}
 use Rattle.meets.specs.GeneratrixLaws.{speed-refusal}
 use mathlib.Core.Path.{sym, _∙_}
@@ -31,7 +31,7 @@ note-requires : tie.Need-note-requires
 note-requires c κs = search needs
 
 returns : tie.Need-returns
-unfolding speedC
+unfolding firstDerivativesC
 returns c = ((simp (c .note .ensures, c .before .before .before .dot2 .ensures, c .before .before .before .before .dot .ensures, c .before .before .before .before .before .across .ensures, c .before .before .before .before .before .before .times3 .ensures, c .before .before .before .before .before .before .before .minus .ensures, c .before .before .before .before .before .before .before .before .times2 .ensures, c .before .before .before .before .before .before .before .before .before .times .ensures, zero-first)) ∙ sym (speed-refusal (c .before .before .before .before .before .before .before .before .before .before .args .p) (c .before .before .before .before .before .before .before .before .before .before .args .h)), simp (c .before .before .before .dot2 .ensures, c .before .before .before .before .dot .ensures, c .before .before .before .before .before .across .ensures, c .before .before .before .before .before .before .times3 .ensures, c .before .before .before .before .before .before .before .minus .ensures, c .before .before .before .before .before .before .before .before .times2 .ensures, c .before .before .before .before .before .before .before .before .before .times .ensures))
 
 pub speed-here-spec : {M : Type 1} → statement M

@@ -1,5 +1,5 @@
 use borrow.Author.Needs.{needs}
-use Rattle.piece_curves.specs.Spots.{flatC}
+use Rattle.piece_curves.specs.SpacePoints.{flatC}
 use Rattle.piece_curves.proofs.space_points.flat_point.Statement.{statement}
 use Rattle.piece_curves.proofs.space_points.flat_point.Tie as tie
 

@@ -1,5 +1,5 @@
 use borrow.Author.Needs.{needs}
-use Rattle.piece_curves.specs.Spots.{rolledC}
+use Rattle.piece_curves.specs.SpacePoints.{rolledC}
 use Rattle.piece_curves.proofs.space_points.rolled_point.Statement.{statement}
 use Rattle.piece_curves.proofs.space_points.rolled_point.Tie as tie
 

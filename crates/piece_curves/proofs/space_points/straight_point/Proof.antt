@@ -1,6 +1,6 @@
 use mathlib.Core.Path.{refl}
 use borrow.Author.Needs.{needs}
-use Rattle.piece_curves.specs.Spots.{straightC}
+use Rattle.piece_curves.specs.SpacePoints.{straightC}
 use Rattle.checked.specs.Laws.{rules as checked-rules}
 use Rattle.piece_curves.proofs.space_points.straight_point.Statement.{statement}
 use Rattle.piece_curves.proofs.space_points.straight_point.Tie as tie

@@ -1,5 +1,5 @@
 use borrow.Author.Needs.{needs}
-use Rattle.piece_curves.specs.Spots.{waveC}
+use Rattle.piece_curves.specs.SpacePoints.{waveC}
 use Rattle.checked.specs.Laws.{rules as checked-rules}
 use Rattle.piece_curves.proofs.space_points.wave_point.Statement.{statement}
 use Rattle.piece_curves.proofs.space_points.wave_point.Tie as tie

@@ -1,5 +1,5 @@
 use borrow.Author.Needs.{needs}
-use Rattle.piece_lengths.specs.Bends.{angleBendC}
+use Rattle.piece_lengths.specs.SecondDerivatives.{angleBendC}
 use Rattle.checked.specs.Laws.{zero-first}
 use Rattle.piece_lengths.specs.SecondDerivativesLaws.{angleBend-refusal}
 use mathlib.Core.Path.{sym, _∙_, refl}

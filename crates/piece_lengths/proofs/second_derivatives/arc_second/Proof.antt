@@ -1,5 +1,5 @@
 use borrow.Author.Needs.{needs}
-use Rattle.piece_lengths.specs.Bends.{arcC}
+use Rattle.piece_lengths.specs.SecondDerivatives.{arcC}
 use Rattle.checked.specs.Laws.{rules as checked-rules}
 use Rattle.piece_lengths.proofs.second_derivatives.arc_second.Statement.{statement}
 use Rattle.piece_lengths.proofs.second_derivatives.arc_second.Tie as tie

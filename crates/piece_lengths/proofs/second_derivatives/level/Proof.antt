@@ -1,5 +1,5 @@
 use borrow.Author.Needs.{needs}
-use Rattle.piece_lengths.specs.Bends.{levelC}
+use Rattle.piece_lengths.specs.SecondDerivatives.{levelC}
 use Rattle.checked.specs.Laws.{zero-first}
 use Rattle.piece_lengths.specs.SecondDerivativesLaws.{level-refusal}
 use mathlib.Core.Path.{sym, _∙_, refl}

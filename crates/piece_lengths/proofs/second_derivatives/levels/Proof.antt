@@ -1,5 +1,5 @@
 use borrow.Author.Needs.{needs}
-use Rattle.piece_lengths.specs.Bends.{levelAtC, levelSlopeC, levelBendC, heightBendC}
+use Rattle.piece_lengths.specs.SecondDerivatives.{levelAtC, levelSlopeC, levelBendC, heightBendC}
 use Rattle.checked.specs.Laws.{rules as checked-rules}
 use Rattle.checked.specs.Laws.{first-assoc}
 use Rattle.piece_lengths.specs.SecondDerivativesLaws.{heightBend-refusal}

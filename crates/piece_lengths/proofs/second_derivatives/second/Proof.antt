@@ -1,5 +1,5 @@
 use borrow.Author.Needs.{needs}
-use Rattle.piece_lengths.specs.Bends.{secondC}
+use Rattle.piece_lengths.specs.SecondDerivatives.{secondC}
 use Rattle.piece_lengths.proofs.second_derivatives.second.Statement.{statement}
 use Rattle.piece_lengths.proofs.second_derivatives.second.Tie as tie
 

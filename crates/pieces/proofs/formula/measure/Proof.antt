@@ -1,7 +1,7 @@
 use borrow.Author.Needs.{needs}
 use Rattle.checked.specs.Laws.{zero-first}
-use Rattle.piece_curves.specs.Runs.{wayC}
-use Rattle.piece_curves.specs.Runs as runs
+use Rattle.piece_curves.specs.PieceCurves.{kindC}
+use Rattle.piece_curves.specs.PieceCurves as runs
 use Rattle.pieces.specs.Pieces.{runC}
 use Rattle.pieces.proofs.formula.measure.Statement.{statement}
 use Rattle.pieces.proofs.formula.measure.Tie as tie
@@ -19,7 +19,7 @@ run-measure-requires : tie.Need-run-measure-requires
 run-measure-requires c κs = search needs
 
 returns : tie.Need-returns
-unfolding runC runs.runC wayC
+unfolding runC runs.curveC kindC
 returns c = (simp (c .untraced-measure .ensures .0, c .before .enum-told .given .1, zero-first), simp (c .untraced-measure .ensures .1, c .before .enum-told .given .1))
 
 returns-2 : tie.Need-returns-2

@@ -3,16 +3,16 @@ use Rattle.pieces.specs.Pieces.{runC}
 use Rattle.pieces.proofs.formula.run.Statement.{statement}
 use Rattle.pieces.proofs.formula.run.Tie as tie
 
-run-of-requires : tie.Need-run-of-requires
-run-of-requires c κs = search needs
+curve-of-requires : tie.Need-curve-of-requires
+curve-of-requires c κs = search needs
 
 returns : tie.Need-returns
 unfolding runC
-returns c = (simp (c .run-of .ensures .0), simp (c .run-of .ensures .1))
+returns c = (simp (c .curve-of .ensures .0), simp (c .curve-of .ensures .1))
 
 pub run-spec : {M : Type 1} → statement M
 run-spec =
     tie.close
     (tie.spec
-    run-of-requires
+    curve-of-requires
     returns)

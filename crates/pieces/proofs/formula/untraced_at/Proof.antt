@@ -1,5 +1,5 @@
 use borrow.Author.Needs.{needs}
-use Rattle.piece_curves.specs.Runs.{untraced}
+use Rattle.piece_curves.specs.PieceCurves.{untraced}
 use Rattle.piece_curves.specs.Points.{atC}
 use Rattle.pieces.proofs.formula.untraced_at.Statement.{statement}
 use Rattle.pieces.proofs.formula.untraced_at.Tie as tie

@@ -1,5 +1,5 @@
 use borrow.Author.Needs.{needs}
-use Rattle.piece_curves.specs.Runs.{untraced}
+use Rattle.piece_curves.specs.PieceCurves.{untraced}
 use Rattle.piece_lengths.specs.Measures.{measureC}
 use Rattle.pieces.proofs.formula.untraced_measure.Statement.{statement}
 use Rattle.pieces.proofs.formula.untraced_measure.Tie as tie

@@ -45,9 +45,9 @@ use Rattle.integrals.proofs.Integrals.Laws as Integrals-laws
 use Rattle.cones.specs.declared.Cone.{Cone}
 use Rattle.cones.proofs.Cone as Cone-type
 use Rattle.cones.proofs.Cone.Laws as Cone-laws
-use Rattle.integrals.specs.declared.Outcome.{Outcome}
-use Rattle.integrals.proofs.Outcome as Outcome-type
-use Rattle.integrals.proofs.Outcome.Laws as Outcome-laws
+use Rattle.integrals.specs.declared.SumsOutcome.{SumsOutcome}
+use Rattle.integrals.proofs.SumsOutcome as SumsOutcome-type
+use Rattle.integrals.proofs.SumsOutcome.Laws as SumsOutcome-laws
 use Rattle.integrals.specs.Sums.{outcome}
 use Rattle.revolutions.specs.Closings.{closeDue}
 use Rattle.revolutions.proofs.closings.outcome as step
@@ -76,17 +76,17 @@ abbrev Cone-spelled : Cone → Val
 Cone-spelled x = only ((LL.vals Cone-type.the-type Cone-laws.the-laws) x)
 
 -- what a value at some machine values tells of its parts
-kept : (l : Outcome) {vs : List Val} → Is Outcome-type.the-row l vs → Is Integrals-type.the-row (l .sums) ((Integrals-spelled (l .sums)) ∷ [])
-kept l {vs} is = LL.owed Outcome-type.the-type Outcome-laws.the-laws l vs is .0
+kept : (l : SumsOutcome) {vs : List Val} → Is SumsOutcome-type.the-row l vs → Is Integrals-type.the-row (l .sums) ((Integrals-spelled (l .sums)) ∷ [])
+kept l {vs} is = LL.owed SumsOutcome-type.the-type SumsOutcome-laws.the-laws l vs is .0
 
-number-of : (l : Outcome) {vs : List Val} → Is Outcome-type.the-row l vs → Is u8 (l .number) (vint w8 (l .number) ∷ [])
-number-of l {vs} is = LL.owed Outcome-type.the-type Outcome-laws.the-laws l vs is .1 .0
+number-of : (l : SumsOutcome) {vs : List Val} → Is SumsOutcome-type.the-row l vs → Is u8 (l .number) (vint w8 (l .number) ∷ [])
+number-of l {vs} is = LL.owed SumsOutcome-type.the-type SumsOutcome-laws.the-laws l vs is .1 .0
 
 module _ {M : Type 1} (𝓤 : URA M) (H : Heap 𝓤) (A : Atoms 𝓤) (at-mem : Memory → SProp 𝓤) (run : Routine → Fun 𝓤) where
   abbrev StepC : Contract 𝓤
   StepC = tripleOf 𝓤 H A step.signature (step.spec 𝓤 H A at-mem run)
 
-  given-by : (the-acc : Integrals) (the-cone : Cone) (the-sums : Integrals) (l : Outcome) → ent 𝓤 (ensured 𝓤 H A step.ended (step.clauses 𝓤 H A at-mem run) tt (the-acc, (the-cone, (the-sums, tt))) tt l) (fact 𝓤 (l ≡ outcome the-acc (closeDue the-cone the-sums the-acc)))
+  given-by : (the-acc : Integrals) (the-cone : Cone) (the-sums : Integrals) (l : SumsOutcome) → ent 𝓤 (ensured 𝓤 H A step.ended (step.clauses 𝓤 H A at-mem run) tt (the-acc, (the-cone, (the-sums, tt))) tt l) (fact 𝓤 (l ≡ outcome the-acc (closeDue the-cone the-sums the-acc)))
   given-by the-acc the-cone the-sums l = exE 𝓤 _ (λ ws. snd∗ 𝓤 (sem 𝓤 H A (lasts step.ended tt (the-acc, (the-cone, (the-sums, tt))) ws)) (fact 𝓤 (l ≡ outcome the-acc (closeDue the-cone the-sums the-acc))))
 
 module _ {M : Type 1} (𝓤 : URA M) (H : Heap 𝓤) (A : Atoms 𝓤) (W : Given 𝓤 H A) (at-mem : Memory → SProp 𝓤) (run : Routine → Fun 𝓤) (κ : Lft) (q : Share) (b o : ℕ) (γ : GName) (the-acc : Integrals) (the-cone : Cone) (the-sums : Integrals)
@@ -107,12 +107,12 @@ module _ {M : Type 1} (𝓤 : URA M) (H : Heap 𝓤) (A : Atoms 𝓤) (W : Given
     goes-step : ent 𝓤 (sep 𝓤 (sem 𝓤 H A ftrue) (sem 𝓤 H A (owns (Integrals-type.the-row ∷ Cone-type.the-row ∷ Integrals-type.the-row ∷ []) (the-acc, (the-cone, (the-sums, tt))) ((Integrals-spelled the-acc) ∷ [], ((Cone-spelled the-cone) ∷ [], ((Integrals-spelled the-sums) ∷ [], tt)))))) (StepC 𝓤 H A at-mem run .pre to-step)
     goes-step = qed W (‵ ftrue ∷ ‵ (owns (Integrals-type.the-row ∷ Cone-type.the-row ∷ Integrals-type.the-row ∷ []) (the-acc, (the-cone, (the-sums, tt))) ((Integrals-spelled the-acc) ∷ [], ((Cone-spelled the-cone) ∷ [], ((Integrals-spelled the-sums) ∷ [], tt)))) ∷ []) ∵ join ! $ frame ! $ done !
 
-    exits : (l : Outcome) → l ≡ outcome the-acc (closeDue the-cone the-sums the-acc) → Is u8 (l .number) (vint w8 (l .number) ∷ [])
+    exits : (l : SumsOutcome) → l ≡ outcome the-acc (closeDue the-cone the-sums the-acc) → Is u8 (l .number) (vint w8 (l .number) ∷ [])
         → ent 𝓤 (sep 𝓤 (A .obs γ (Integrals-type.the-row .coded .code (l .sums))) (sep 𝓤 (A .bor κ (Body (mem Integrals-type.the-row) b o γ)) (A .lft κ q))) (Post (vint w8 (l .number)))
     exits l e ok =
         qed W (‵ (fobs γ (Integrals-type.the-row .coded .code (l .sums))) ∷ ‵ (fbor κ (Body (mem Integrals-type.the-row) b o γ)) ∷ ‵ (flft κ q) ∷ []) ∵
         suffices ! _ (ends-at 𝓤 H A f.ended stayed (f.clauses 𝓤 H A at-mem run) W (((κ, tt), (q, tt), tt, x, at), tt) (vint w8 (l .number)) (l .number) (l .sums, (tt, (tt, tt))) (tt, (tt, (tt, tt)))) $
-        says ! (record { says = ap (λ (m : Outcome). m .number) e; leaves = ap (λ (m : Outcome). m .sums) e }) $ nothing ! $ move ! (3 ∷ 0 ∷ []) $ join ! $ frame ! $
+        says ! (record { says = ap (λ (m : SumsOutcome). m .number) e; leaves = ap (λ (m : SumsOutcome). m .sums) e }) $ nothing ! $ move ! (3 ∷ 0 ∷ []) $ join ! $ frame ! $
         feqI ! (List Val) (vptr b o ∷ []) (vptr b o ∷ []) refl $ fjoin3 ! $ nothing ! $
         owned ! Integrals-type.the-row (Is Integrals-type.the-row) (LL.makes Integrals-type.the-type Integrals-laws.the-plain 𝓤 H A) the-sums _ is-the-sums $ fjoin ! $
         owned ! Cone-type.the-row (Is Cone-type.the-row) (LL.makes Cone-type.the-type Cone-laws.the-plain 𝓤 H A) the-cone _ is-the-cone $ fjoin ! $
@@ -138,11 +138,11 @@ module _ {M : Type 1} (𝓤 : URA M) (H : Heap 𝓤) (A : Atoms 𝓤) (W : Given
           owned ! Integrals-type.the-row (Is Integrals-type.the-row) (LL.makes Integrals-type.the-type Integrals-laws.the-plain 𝓤 H A) the-acc _ was $ fjoin ! $ nothing ! $
           use2 W (raw (StepC 𝓤 H A at-mem run .pre to-step)) goes-step $
           calls-at ! fm (StepC 𝓤 H A at-mem run) known to-step (and-then ! (load ! (from ! (stop !)) (look ! 6 refl)) (and-then ! (load ! (from ! (stop !)) (look ! 12 refl)) (and-then ! (load ! (from ! (stop !)) (look ! 10 refl)) (no-more !)))) (λ v.
-          use1 W (later (some (λ (l : Outcome). (‵ ftrue ⊛ ‵ (Outcome-type.the-row .own l (v ∷ []))) ⊛ raw (ensured 𝓤 H A step.ended (step.clauses 𝓤 H A at-mem run) tt (the-acc, (the-cone, (the-sums, tt))) tt l)))) (id⊢ 𝓤 _) $ await ! tt $ pick ! (λ l.
+          use1 W (later (some (λ (l : SumsOutcome). (‵ ftrue ⊛ ‵ (SumsOutcome-type.the-row .own l (v ∷ []))) ⊛ raw (ensured 𝓤 H A step.ended (step.clauses 𝓤 H A at-mem run) tt (the-acc, (the-cone, (the-sums, tt))) tt l)))) (id⊢ 𝓤 _) $ await ! tt $ pick ! (λ l.
           split ! $ move ! (1 ∷ []) $ use1 W (raw (fact 𝓤 (l ≡ outcome the-acc (closeDue the-cone the-sums the-acc)))) (given-by 𝓤 H A at-mem run the-acc the-cone the-sums l) $ heard ! (l ≡ outcome the-acc (closeDue the-cone the-sums the-acc)) (λ e. split ! $ drop ! $
-          peeks ! Outcome-type.the-row (Is Outcome-type.the-row) (shows 𝓤 H A Outcome-type.the-row) l (v ∷ []) (λ is.
-          land ! (from ! (stop !)) (init ! 8 refl (LL.lawful Outcome-type.the-type Outcome-laws.the-laws 𝓤 H A W .typed l _ is .0)) $
-          rewrite ! 8 (λ (u : Val). ‵ (fat fullShare Outcome-laws.mir l4 0 u)) (ap only ((LL.tells Outcome-type.the-type Outcome-laws.the-laws) l (v ∷ []) is)) refl $ drop ! $
+          peeks ! SumsOutcome-type.the-row (Is SumsOutcome-type.the-row) (shows 𝓤 H A SumsOutcome-type.the-row) l (v ∷ []) (λ is.
+          land ! (from ! (stop !)) (init ! 8 refl (LL.lawful SumsOutcome-type.the-type SumsOutcome-laws.the-laws 𝓤 H A W .typed l _ is .0)) $
+          rewrite ! 8 (λ (u : Val). ‵ (fat fullShare SumsOutcome-laws.mir l4 0 u)) (ap only ((LL.tells SumsOutcome-type.the-type SumsOutcome-laws.the-laws) l (v ∷ []) is)) refl $ drop ! $
           assigns ! (of-opd ! (load ! (from ! (fld ! refl (stop !))) (look-in ! 7 (sub ! 0 refl (whole !))))) (from ! (hop ! (look ! 13 refl) (stop !))) (store-raw ! 0 refl (LL.lawful Integrals-type.the-type Integrals-laws.the-laws 𝓤 H A W .typed (l .sums) _ (kept l is) .0)) $
           assigns ! (of-opd ! (load ! (from ! (fld ! refl (stop !))) (look-in ! 7 (sub ! 1 refl (whole !))))) (from ! (stop !)) (init ! 15 refl (tt, record { fits = number-of l is .1 })) $
           move ! (1 ∷ []) $ drop ! $ owned ! Integrals-type.the-row (Is Integrals-type.the-row) (LL.makes Integrals-type.the-type Integrals-laws.the-plain 𝓤 H A) (l .sums) _ (kept l is) $ move ! (1 ∷ 0 ∷ []) $ closes ! tt Integrals-type.the-row (l .sums) ((Integrals-spelled (l .sums)) ∷ []) b o $

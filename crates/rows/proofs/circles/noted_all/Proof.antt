@@ -2,7 +2,7 @@ use mathlib.Core.Path.{_≡_, refl, sym, _∙_, ap}
 use Prim.Native.Nat.{ℕ, _≤_, _-_}
 use native.Mathlib.Omega.{arith}
 use borrow.Author.Needs.{needs}
-use Rattle.rows.specs.Rims.{rimAtC}
+use Rattle.rows.specs.Circles.{circleAtC}
 use Rattle.rows.specs.Rows.{upTo}
 use Rattle.rows.specs.Laws.{upTo-refusal}
 use Rattle.rows.proofs.circles.noted_all.Statement.{statement}
@@ -10,7 +10,7 @@ use Rattle.rows.proofs.circles.noted_all.Tie as tie
 
 -- `i` points are noted
 abbrev Inv-loop : tie.InvT-loop
-Inv-loop rim turn n m r₀ i₀ r i = (i ≤ m) × (r ≡ upTo (rimAtC rim turn n) i .refusal)
+Inv-loop rim turn n m r₀ i₀ r i = (i ≤ m) × (r ≡ upTo (circleAtC rim turn n) i .refusal)
 
 abbrev μ-loop : tie.MeasureT-loop
 μ-loop rim turn n m r₀ i₀ r i = m - i
@@ -37,7 +37,7 @@ loop-again c = (omega arith, simp (c .earlier .ensures, c .before .point-at .ens
 returns : tie.Need-returns Inv-loop μ-loop
 returns c =
     let start = c .before .before .args in
-    c .before .loop .inv .1 ∙ ap (λ (k : ℕ). upTo (rimAtC (start .rim) (start .turn) (start .n)) k .refusal) (omega arith)
+    c .before .loop .inv .1 ∙ ap (λ (k : ℕ). upTo (circleAtC (start .rim) (start .turn) (start .n)) k .refusal) (omega arith)
 
 pub noted-all-spec : {M : Type 1} → statement M
 noted-all-spec =

@@ -1,5 +1,5 @@
 use borrow.Author.Needs.{needs}
-use Rattle.rows.specs.Rims.{rimAtC}
+use Rattle.rows.specs.Circles.{circleAtC}
 use Rattle.rows.specs.CirclesLaws.{rimAt-refusal}
 use mathlib.Core.Path.{sym, _∙_}
 use Rattle.rows.proofs.circles.point_at.Statement.{statement}
@@ -15,7 +15,7 @@ point-requires : tie.Need-point-requires
 point-requires c κs = search needs
 
 returns : tie.Need-returns
-unfolding rimAtC
+unfolding circleAtC
 returns c = ((simp (c .point .ensures .0)) ∙ sym (rimAt-refusal (c .before .before .before .args .rim) (c .before .before .before .args .turn) (c .before .before .before .args .n) (c .before .before .before .args .k)), simp (c .point .ensures .1))
 
 pub point-at-spec : {M : Type 1} → statement M

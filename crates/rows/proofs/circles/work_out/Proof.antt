@@ -5,7 +5,7 @@ use native.Mathlib.Omega.{arith}
 use lib.ListN.{length, drop, length-set}
 use borrow.Author.Needs.{needs}
 use Rattle.checked.specs.Checked.{Checked}
-use Rattle.rows.specs.Rims.{rimAtC}
+use Rattle.rows.specs.Circles.{circleAtC}
 use Rattle.rows.specs.Rows.{upTo, flatItems, flat, point as points}
 use Rattle.rows.specs.Laws.{upTo-refusal, item-put}
 use Rattle.rows.proofs.circles.work_out.Statement.{statement}
@@ -13,7 +13,7 @@ use Rattle.rows.proofs.circles.work_out.Tie as tie
 
 -- `i` points are noted and stored, and the rest of the buffer is as it was
 abbrev Inv-loop : tie.InvT-loop
-Inv-loop buf₀ rim turn n m r₀ i₀ buf r i = (i ≤ m) × (length buf ≡ length buf₀) × (r ≡ upTo (rimAtC rim turn n) i .refusal) × (buf ≡ flat (upTo (rimAtC rim turn n) i .value) ++ drop (3 * i) buf₀)
+Inv-loop buf₀ rim turn n m r₀ i₀ buf r i = (i ≤ m) × (length buf ≡ length buf₀) × (r ≡ upTo (circleAtC rim turn n) i .refusal) × (buf ≡ flat (upTo (circleAtC rim turn n) i .value) ++ drop (3 * i) buf₀)
 
 abbrev μ-loop : tie.MeasureT-loop
 μ-loop buf₀ rim turn n m r₀ i₀ buf r i = m - i
@@ -49,7 +49,7 @@ loop-again c =
       omega arith,
       simp (put, length-set) (now .inv .1),
       simp (c .earlier .ensures, point .0, now .inv .2, upTo-refusal),
-      simp (put, point .1, now .inv .3) (item-put points (rimAtC (start .args .rim) (start .args .turn) (start .args .n)) (start .args .buf .now) (now .i) (omega (arith, start .pre))),
+      simp (put, point .1, now .inv .3) (item-put points (circleAtC (start .args .rim) (start .args .turn) (start .args .n)) (start .args .buf .now) (now .i) (omega (arith, start .pre))),
     )
 
 same-length : tie.Need-same-length Inv-loop μ-loop
@@ -58,7 +58,7 @@ same-length c = c .before .loop .inv .1
 returns : tie.Need-returns Inv-loop μ-loop
 returns c =
     let start = c .before .before .before .args in
-    let points = upTo (rimAtC (start .rim) (start .turn) (start .n)) in
+    let points = upTo (circleAtC (start .rim) (start .turn) (start .n)) in
     let all : c .before .loop .i ≡ start .m = omega arith in
     (c .before .loop .inv .2 ∙ ap (λ (k : ℕ). points k .refusal) all, c .before .loop .inv .3 ∙ ap (λ (k : ℕ). flat (points k .value) ++ drop (3 * k) (start .buf .now)) all)
 

@@ -1,6 +1,6 @@
 use borrow.Author.Needs.{needs}
 use lib.ListN.{length}
-use Rattle.rows.specs.Rims.{rimAtC}
+use Rattle.rows.specs.Circles.{circleAtC}
 use Rattle.rows.specs.Rows.{point}
 use Rattle.rows.specs.Laws.{due-short, due-none, due-some, none-left}
 use Rattle.rows.proofs.circles.write.Statement.{statement}
@@ -12,13 +12,13 @@ mul-if1 c = search needs
 returns : tie.Need-returns
 returns c =
     let start = c .before .before .args in
-    let due = due-short point (start .before) (rimAtC (start .rim) (start .turn) (start .n)) (start .m) (length (start .row .now)) (c .if1 .taken) in
+    let due = due-short point (start .before) (circleAtC (start .rim) (start .turn) (start .n)) (start .m) (length (start .row .now)) (c .if1 .taken) in
     (simp due, simp due)
 
 returns-2 : tie.Need-returns-2
 returns-2 c =
     let start = c .before .before .before .args in
-    let due = due-none point (start .before) (rimAtC (start .rim) (start .turn) (start .n)) (start .m) (length (start .row .now)) (c .if2 .taken) in
+    let due = due-none point (start .before) (circleAtC (start .rim) (start .turn) (start .n)) (start .m) (length (start .row .now)) (c .if2 .taken) in
     (simp due, simp (due, none-left))
 
 write-kept-requires : tie.Need-write-kept-requires
@@ -30,7 +30,7 @@ same-length c = search needs
 returns-3 : tie.Need-returns-3
 returns-3 c =
     let start = c .before .before .before .before .before .before .before .before .args in
-    let due = due-some point (start .before) (rimAtC (start .rim) (start .turn) (start .n)) (start .m) (length (start .row .now)) (c .before .before .before .before .before .before .if1 .left) (c .before .before .before .before .before .if2 .left) in
+    let due = due-some point (start .before) (circleAtC (start .rim) (start .turn) (start .n)) (start .m) (length (start .row .now)) (c .before .before .before .before .before .before .if1 .left) (c .before .before .before .before .before .if2 .left) in
     (simp due (c .before .before .write-kept .ensures .0), simp due (c .before .before .write-kept .ensures .1))
 
 write-twice-requires : tie.Need-write-twice-requires
@@ -42,7 +42,7 @@ same-length-2 c = search needs
 returns-4 : tie.Need-returns-4
 returns-4 c =
     let start = c .before .before .before .before .before .before .before .before .args in
-    let due = due-some point (start .before) (rimAtC (start .rim) (start .turn) (start .n)) (start .m) (length (start .row .now)) (c .before .before .before .before .before .before .if1 .left) (c .before .before .before .before .before .if2 .left) in
+    let due = due-some point (start .before) (circleAtC (start .rim) (start .turn) (start .n)) (start .m) (length (start .row .now)) (c .before .before .before .before .before .before .if1 .left) (c .before .before .before .before .before .if2 .left) in
     (simp due (c .before .before .write-twice .ensures .0), simp due (c .before .before .write-twice .ensures .1))
 
 pub write-spec : {M : Type 1} → statement M

@@ -51,9 +51,9 @@ use Rattle.pieces.proofs.Rolled.Laws as Rolled-laws
 use Rattle.vectors.specs.declared.Vec3.{Vec3}
 use Rattle.vectors.proofs.Vec3 as Vec3-type
 use Rattle.vectors.proofs.Vec3.Laws as Vec3-laws
-use Rattle.integrals.specs.declared.Outcome.{Outcome}
-use Rattle.integrals.proofs.Outcome as Outcome-type
-use Rattle.integrals.proofs.Outcome.Laws as Outcome-laws
+use Rattle.integrals.specs.declared.SumsOutcome.{SumsOutcome}
+use Rattle.integrals.proofs.SumsOutcome as SumsOutcome-type
+use Rattle.integrals.proofs.SumsOutcome.Laws as SumsOutcome-laws
 use Rattle.integrals.specs.Sums.{outcome}
 use Rattle.walls.specs.Entries.{wallDue}
 use Rattle.walls.proofs.cut_walls.outcome as step
@@ -72,7 +72,7 @@ function-of τ1 τ2 τ3 τ4 = record {
   lifetimes = 1;
   outlives = [];
   params = 5;
-  locals = local (tyInt w8) valueLocal ∷ local (tyRef (named 0) mut (Integrals-type.the-row .written .ty)) valueLocal ∷ local τ1 valueLocal ∷ local τ2 valueLocal ∷ local τ3 valueLocal ∷ local τ4 valueLocal ∷ local Outcome-laws.mir valueLocal ∷ local Integrals-laws.mir valueLocal ∷ [];
+  locals = local (tyInt w8) valueLocal ∷ local (tyRef (named 0) mut (Integrals-type.the-row .written .ty)) valueLocal ∷ local τ1 valueLocal ∷ local τ2 valueLocal ∷ local τ3 valueLocal ∷ local τ4 valueLocal ∷ local SumsOutcome-laws.mir valueLocal ∷ local Integrals-laws.mir valueLocal ∷ [];
   body = seq (assign (place 7 []) (rvOpd (copy (place 1 (deref Integrals-laws.mir ∷ [])))))
       (seq (call #walls·cut-walls·outcome (copy (place 7 []) ∷ copy (place 2 []) ∷ copy (place 3 []) ∷ copy (place 4 []) ∷ copy (place 5 []) ∷ []) (place 6 []))
       (seq (assign (place 1 (deref Integrals-laws.mir ∷ [])) (rvOpd (copy (place 6 (field 0 ∷ [])))))
@@ -85,19 +85,19 @@ abbrev Integrals-spelled : Integrals → Val
 Integrals-spelled x = only (LL.vals Integrals-type.the-type Integrals-laws.the-laws x)
 
 -- what a value at some machine values tells of its parts
-kept : (l : Outcome) {vs : List Val} → Is Outcome-type.the-row l vs → Is Integrals-type.the-row (l .sums) (Integrals-spelled (l .sums) ∷ [])
-kept l {vs} is = LL.owed Outcome-type.the-type Outcome-laws.the-laws l vs is .0
+kept : (l : SumsOutcome) {vs : List Val} → Is SumsOutcome-type.the-row l vs → Is Integrals-type.the-row (l .sums) (Integrals-spelled (l .sums) ∷ [])
+kept l {vs} is = LL.owed SumsOutcome-type.the-type SumsOutcome-laws.the-laws l vs is .0
 
-number-of : (l : Outcome) {vs : List Val} → Is Outcome-type.the-row l vs → Is u8 (l .number) (vint w8 (l .number) ∷ [])
-number-of l {vs} is = LL.owed Outcome-type.the-type Outcome-laws.the-laws l vs is .1 .0
+number-of : (l : SumsOutcome) {vs : List Val} → Is SumsOutcome-type.the-row l vs → Is u8 (l .number) (vint w8 (l .number) ∷ [])
+number-of l {vs} is = LL.owed SumsOutcome-type.the-type SumsOutcome-laws.the-laws l vs is .1 .0
 
 -- Fact: what is known of what the call gives; Back: what is had once it has returned
 module _ {M : Type 1} (𝓤 : URA M) (H : Heap 𝓤) (A : Atoms 𝓤) (W : Given 𝓤 H A) (C : Calls 𝓤 H) (Λ : Loops 𝓤 H) (fm : FmC 𝓤 H (W .laws) C) (κ : Lft) (q : Share) (b o : ℕ) (γ : GName) (the-acc : Integrals)
     (τ1 τ2 τ3 τ4 : Ty) (v1 v2 v3 v4 : Val) (typed1 : T (hasTy τ1 v1) × WT v1) (typed2 : T (hasTy τ2 v2) × WT v2) (typed3 : T (hasTy τ3 v3) × WT v3) (typed4 : T (hasTy τ4 v4) × WT v4)
-    (Fact : Outcome → Type 0) (Back Post : Val → SProp 𝓤)
+    (Fact : SumsOutcome → Type 0) (Back Post : Val → SProp 𝓤)
     (calls : Is Integrals-type.the-row the-acc (Integrals-spelled the-acc ∷ []) → ent 𝓤 (emp 𝓤) (C #walls·cut-walls·outcome (Integrals-spelled the-acc ∷ v1 ∷ v2 ∷ v3 ∷ v4 ∷ []) Back))
-    (gives : (v : Val) → ent 𝓤 (Back v) (mean 𝓤 H A (later (some (λ (l : Outcome). ‵ (Outcome-type.the-row .own l (v ∷ [])) ⊛ raw (fact 𝓤 (Fact l)))))))
-    (ends : (l : Outcome) → Fact l → Is u8 (l .number) (vint w8 (l .number) ∷ []) → ent 𝓤 (sep 𝓤 (A .obs γ (Integrals-type.the-row .coded .code (l .sums))) (sep 𝓤 (A .bor κ (Body (mem Integrals-type.the-row) b o γ)) (A .lft κ q))) (Post (vint w8 (l .number))))
+    (gives : (v : Val) → ent 𝓤 (Back v) (mean 𝓤 H A (later (some (λ (l : SumsOutcome). ‵ (SumsOutcome-type.the-row .own l (v ∷ [])) ⊛ raw (fact 𝓤 (Fact l)))))))
+    (ends : (l : SumsOutcome) → Fact l → Is u8 (l .number) (vint w8 (l .number) ∷ []) → ent 𝓤 (sep 𝓤 (A .obs γ (Integrals-type.the-row .coded .code (l .sums))) (sep 𝓤 (A .bor κ (Body (mem Integrals-type.the-row) b o γ)) (A .lft κ q))) (Post (vint w8 (l .number))))
   where
     walk : ent 𝓤 (sep 𝓤 (A .obs γ (Integrals-type.the-row .coded .code the-acc)) (sep 𝓤 (A .bor κ (Body (mem Integrals-type.the-row) b o γ)) (A .lft κ q))) (WpFn 𝓤 H C Λ (function-of τ1 τ2 τ3 τ4) (vptr b o ∷ v1 ∷ v2 ∷ v3 ∷ v4 ∷ []) Post)
     walk =
@@ -114,11 +114,11 @@ module _ {M : Type 1} (𝓤 : URA M) (H : Heap 𝓤) (A : Atoms 𝓤) (W : Given
         assigns ! (of-opd ! (load ! (from ! (hop ! (look ! 17 refl) (stop !))) (look-raw ! 0 refl))) (from ! (stop !)) (init ! 5 refl (LL.lawful Integrals-type.the-type Integrals-laws.the-laws 𝓤 H A W .typed the-acc _ was .0)) $
         nothing ! $
         calls-from ! fm (‵ ftrue) (Integrals-spelled the-acc ∷ v1 ∷ v2 ∷ v3 ∷ v4 ∷ []) Back (calls was) (and-then ! (load ! (from ! (stop !)) (look ! 6 refl)) (and-then ! (load ! (from ! (stop !)) (look ! 16 refl)) (and-then ! (load ! (from ! (stop !)) (look ! 14 refl)) (and-then ! (load ! (from ! (stop !)) (look ! 12 refl)) (and-then ! (load ! (from ! (stop !)) (look ! 10 refl)) (no-more !)))))) (λ v.
-        use1 W (later (some (λ (l : Outcome). ‵ (Outcome-type.the-row .own l (v ∷ [])) ⊛ raw (fact 𝓤 (Fact l))))) (gives v) $ await ! tt $ pick ! (λ l.
+        use1 W (later (some (λ (l : SumsOutcome). ‵ (SumsOutcome-type.the-row .own l (v ∷ [])) ⊛ raw (fact 𝓤 (Fact l))))) (gives v) $ await ! tt $ pick ! (λ l.
         split ! $ move ! (1 ∷ []) $ heard ! (Fact l) (λ e.
-        peeks ! Outcome-type.the-row (Is Outcome-type.the-row) (shows 𝓤 H A Outcome-type.the-row) l (v ∷ []) (λ is.
-        land ! (from ! (stop !)) (init ! 8 refl (LL.lawful Outcome-type.the-type Outcome-laws.the-laws 𝓤 H A W .typed l _ is .0)) $
-        rewrite ! 8 (λ (u : Val). ‵ (fat fullShare Outcome-laws.mir l6 0 u)) (ap only ((LL.tells Outcome-type.the-type Outcome-laws.the-laws) l (v ∷ []) is)) refl $ drop ! $
+        peeks ! SumsOutcome-type.the-row (Is SumsOutcome-type.the-row) (shows 𝓤 H A SumsOutcome-type.the-row) l (v ∷ []) (λ is.
+        land ! (from ! (stop !)) (init ! 8 refl (LL.lawful SumsOutcome-type.the-type SumsOutcome-laws.the-laws 𝓤 H A W .typed l _ is .0)) $
+        rewrite ! 8 (λ (u : Val). ‵ (fat fullShare SumsOutcome-laws.mir l6 0 u)) (ap only ((LL.tells SumsOutcome-type.the-type SumsOutcome-laws.the-laws) l (v ∷ []) is)) refl $ drop ! $
         assigns ! (of-opd ! (load ! (from ! (fld ! refl (stop !))) (look-in ! 7 (sub ! 0 refl (whole !))))) (from ! (hop ! (look ! 17 refl) (stop !))) (store-raw ! 0 refl (LL.lawful Integrals-type.the-type Integrals-laws.the-laws 𝓤 H A W .typed (l .sums) _ (kept l is) .0)) $
         assigns ! (of-opd ! (load ! (from ! (fld ! refl (stop !))) (look-in ! 7 (sub ! 1 refl (whole !))))) (from ! (stop !)) (init ! 19 refl (tt, record { fits = number-of l is .1 })) $
         move ! (1 ∷ []) $ drop ! $ owned ! Integrals-type.the-row (Is Integrals-type.the-row) (LL.makes Integrals-type.the-type Integrals-laws.the-plain 𝓤 H A) (l .sums) _ (kept l is) $ move ! (1 ∷ 0 ∷ []) $ closes ! tt Integrals-type.the-row (l .sums) (Integrals-spelled (l .sums) ∷ []) b o $
@@ -144,7 +144,7 @@ module _ {M : Type 1} (𝓤 : URA M) (H : Heap 𝓤) (A : Atoms 𝓤) (W : Given
   abbrev to-step : StepC 𝓤 H A at-mem run .Ghost
   to-step = ((tt, tt, tt, (the-acc, (the-p, (the-r0, (the-r1, (the-o, tt))))), (Integrals-spelled the-acc ∷ [], (v1 ∷ [], (v2 ∷ [], (v3 ∷ [], (v4 ∷ [], tt)))))), tt)
 
-  abbrev Given-by : Outcome → Type 0
+  abbrev Given-by : SumsOutcome → Type 0
   Given-by l = l ≡ outcome the-acc (wallDue the-p the-r0 the-r1 the-o the-acc)
 
   -- what the call asks, from what is known of each value
@@ -158,14 +158,14 @@ module _ {M : Type 1} (𝓤 : URA M) (H : Heap 𝓤) (A : Atoms 𝓤) (W : Given
       owned ! Integrals-type.the-row (Is Integrals-type.the-row) (LL.makes Integrals-type.the-type Integrals-laws.the-plain 𝓤 H A) the-acc _ was $ fjoin ! $ nothing ! $ join ! $ frame ! $ done !
 
   -- what it gives
-  ensures-it : (l : Outcome) → ent 𝓤 (ensured 𝓤 H A step.ended (step.clauses 𝓤 H A at-mem run) tt (the-acc, (the-p, (the-r0, (the-r1, (the-o, tt))))) tt l) (fact 𝓤 (Given-by l))
+  ensures-it : (l : SumsOutcome) → ent 𝓤 (ensured 𝓤 H A step.ended (step.clauses 𝓤 H A at-mem run) tt (the-acc, (the-p, (the-r0, (the-r1, (the-o, tt))))) tt l) (fact 𝓤 (Given-by l))
   ensures-it l = exE 𝓤 _ (λ ws. snd∗ 𝓤 (sem 𝓤 H A (lasts step.ended tt (the-acc, (the-p, (the-r0, (the-r1, (the-o, tt))))) ws)) (fact 𝓤 (Given-by l)))
 
-  gives-back : (v : Val) → ent 𝓤 (StepC 𝓤 H A at-mem run .post to-step v) (mean 𝓤 H A (later (some (λ (l : Outcome). ‵ (Outcome-type.the-row .own l (v ∷ [])) ⊛ raw (fact 𝓤 (Given-by l))))))
+  gives-back : (v : Val) → ent 𝓤 (StepC 𝓤 H A at-mem run .post to-step v) (mean 𝓤 H A (later (some (λ (l : SumsOutcome). ‵ (SumsOutcome-type.the-row .own l (v ∷ [])) ⊛ raw (fact 𝓤 (Given-by l))))))
   gives-back v =
-      qed W (later (some (λ (l : Outcome). (‵ ftrue ⊛ ‵ (Outcome-type.the-row .own l (v ∷ []))) ⊛ raw (ensured 𝓤 H A step.ended (step.clauses 𝓤 H A at-mem run) tt (the-acc, (the-p, (the-r0, (the-r1, (the-o, tt))))) tt l))) ∷ []) ∵
+      qed W (later (some (λ (l : SumsOutcome). (‵ ftrue ⊛ ‵ (SumsOutcome-type.the-row .own l (v ∷ []))) ⊛ raw (ensured 𝓤 H A step.ended (step.clauses 𝓤 H A at-mem run) tt (the-acc, (the-p, (the-r0, (the-r1, (the-o, tt))))) tt l))) ∷ []) ∵
       updating ! $ await ! tt $ pick ! (λ l. split ! $ split ! $ drop ! $ move ! (1 ∷ []) $ use1 W (raw (fact 𝓤 (Given-by l))) (ensures-it l) $ move ! (1 ∷ 0 ∷ []) $
-      at-once ! $ show ! (λ (m : Outcome). sep 𝓤 (sem 𝓤 H A (Outcome-type.the-row .own m (v ∷ []))) (fact 𝓤 (Given-by m))) l $ done !)
+      at-once ! $ show ! (λ (m : SumsOutcome). sep 𝓤 (sem 𝓤 H A (SumsOutcome-type.the-row .own m (v ∷ []))) (fact 𝓤 (Given-by m))) l $ done !)
 
   module _ (κ : Lft) (q : Share) (b o : ℕ) (γ : GName) where
     abbrev x : Arg
@@ -182,11 +182,11 @@ module _ {M : Type 1} (𝓤 : URA M) (H : Heap 𝓤) (A : Atoms 𝓤) (W : Given
         qed W ((‵ (flft κ q) ⊛ ‵ ftrue) ∷ ‵ (owns (MutRef (named 0) κ Integrals-type.the-row ∷ Rolled-type.the-row ∷ f64 ∷ f64 ∷ Vec3-type.the-row ∷ []) x at) ∷ []) ∵
         split ! $ move ! (2 ∷ []) $ fsplit ! $ fsplit3 ! $ drop ! $ keep ! (0 ∷ 1 ∷ 3 ∷ []) $ done !
 
-    exits : (l : Outcome) → Given-by l → Is u8 (l .number) (vint w8 (l .number) ∷ []) → ent 𝓤 (sep 𝓤 (A .obs γ (Integrals-type.the-row .coded .code (l .sums))) (sep 𝓤 (A .bor κ (Body (mem Integrals-type.the-row) b o γ)) (A .lft κ q))) (Post (vint w8 (l .number)))
+    exits : (l : SumsOutcome) → Given-by l → Is u8 (l .number) (vint w8 (l .number) ∷ []) → ent 𝓤 (sep 𝓤 (A .obs γ (Integrals-type.the-row .coded .code (l .sums))) (sep 𝓤 (A .bor κ (Body (mem Integrals-type.the-row) b o γ)) (A .lft κ q))) (Post (vint w8 (l .number)))
     exits l e ok =
         qed W (‵ (fobs γ (Integrals-type.the-row .coded .code (l .sums))) ∷ ‵ (fbor κ (Body (mem Integrals-type.the-row) b o γ)) ∷ ‵ (flft κ q) ∷ []) ∵
         suffices ! _ (ends-at 𝓤 H A f.ended stayed (f.clauses 𝓤 H A at-mem run) W (((κ, tt), (q, tt), tt, x, at), tt) (vint w8 (l .number)) (l .number) (l .sums, (tt, (tt, (tt, (tt, tt))))) (tt, (tt, (tt, (tt, (tt, tt)))))) $
-        says ! (record { says = ap (λ (m : Outcome). m .number) e; leaves = ap (λ (m : Outcome). m .sums) e }) $ nothing ! $ move ! (3 ∷ 0 ∷ []) $ join ! $ frame ! $
+        says ! (record { says = ap (λ (m : SumsOutcome). m .number) e; leaves = ap (λ (m : SumsOutcome). m .sums) e }) $ nothing ! $ move ! (3 ∷ 0 ∷ []) $ join ! $ frame ! $
         feqI ! (List Val) (vptr b o ∷ []) (vptr b o ∷ []) refl $ fjoin3 ! $ nothing ! $
         nothing ! $ fjoin ! $ nothing ! $ fjoin ! $ nothing ! $ fjoin ! $ nothing ! $ fjoin ! $ move ! (1 ∷ 0 ∷ []) $ fjoin ! $
         owned ! u8 (Is u8) (uint-makes 𝓤 H A W w8) (l .number) _ ok $ move ! (1 ∷ 0 ∷ []) $ done !

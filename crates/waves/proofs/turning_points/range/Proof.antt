@@ -1,5 +1,5 @@
 use borrow.Author.Needs.{needs}
-use Rattle.waves.specs.Ranges.{rangeC}
+use Rattle.waves.specs.TurningPoints.{rangeC}
 use Rattle.waves.proofs.turning_points.range.Statement.{statement}
 use Rattle.waves.proofs.turning_points.range.Tie as tie
 

@@ -1,5 +1,5 @@
 use borrow.Author.Needs.{needs}
-use Rattle.waves.specs.Ranges.{startC}
+use Rattle.waves.specs.TurningPoints.{startC}
 use Rattle.checked.specs.Laws.{zero-first}
 use Rattle.waves.specs.TurningPointsLaws.{start-refusal}
 use mathlib.Core.Path.{sym, _∙_}

@@ -1,5 +1,5 @@
 use borrow.Author.Needs.{needs}
-use Rattle.waves.specs.Ranges.{turningC}
+use Rattle.waves.specs.TurningPoints.{turningC}
 use Rattle.checked.specs.Laws.{rules as checked-rules}
 use Rattle.waves.proofs.turning_points.turning_of.Statement.{statement}
 use Rattle.waves.proofs.turning_points.turning_of.Tie as tie

@@ -9,14 +9,14 @@ use Rattle.checked.specs.Loops.{whileC}
 use Rattle.checked.specs.LoopsLaws.{Remains, remains-whole, remains-more, remains-none, remains-over}
 use Rattle.waves.specs.declared.turning_points.Span.{Span}
 use Rattle.waves.specs.declared.turning_points.Turning.{Turning}
-use Rattle.waves.specs.declared.turning_points.Reached.{Reached}
-use Rattle.waves.specs.Ranges.{TURNING-POINTS, insideC, takenC, turnsC}
+use Rattle.waves.specs.declared.turning_points.RangeSoFar.{RangeSoFar}
+use Rattle.waves.specs.TurningPoints.{TURNING-POINTS, insideC, takenC, turnsC}
 use Rattle.waves.specs.TurningPointsLaws.{inside-value, inside-refusal, step-refusal}
 use Rattle.waves.proofs.turning_points.turns.Statement.{statement}
 use Rattle.waves.proofs.turning_points.turns.Tie as tie
 
 -- the turning points that remain
-abbrev rest : Turning → ℕ → Reached → Checked Reached
+abbrev rest : Turning → ℕ → RangeSoFar → Checked RangeSoFar
 rest t left s = whileC COUNT-TOO-LARGE left (insideC t) (takenC t) s
 
 abbrev Inv-loop : tie.InvT-loop
@@ -39,9 +39,9 @@ unfolding turnsC
 returns c =
     let at = c .before .before .before .before .before .before .before .before .before .loop in
     let t = c .before .before .before .before .before .before .before .before .before .before .args .t in
-    let s : Reached = record { k = at .k; low = at .low; high = at .high } in
+    let s : RangeSoFar = record { k = at .k; low = at .low; high = at .high } in
     let d = remains-over COUNT-TOO-LARGE (insideC t) (takenC t) s (at .r) (at .left) _ (at .inv) (c .before .before .if2 .taken) (inside-value t s ∙ c .before .before .before .before .before .if1 .taken) in
-    (simp (c .earlier .ensures, c .before .note .ensures, first-zero) (rw (inside-refusal t s) at (d .refusal)), ap (λ (s : Reached). record { low = s .low; high = s .high }) (d .value))
+    (simp (c .earlier .ensures, c .before .note .ensures, first-zero) (rw (inside-refusal t s) at (d .refusal)), ap (λ (s : RangeSoFar). record { low = s .low; high = s .high }) (d .value))
 
 v-requires : tie.Need-v-requires Inv-loop μ-loop
 v-requires c κs = search needs
@@ -69,7 +69,7 @@ unfolding takenC
 loop-again c =
     let at = c .before .before .before .before .before .before .before .before .before .before .before .before .loop in
     let t = c .before .before .before .before .before .before .before .before .before .before .before .before .before .args .t in
-    let s : Reached = record { k = at .k; low = at .low; high = at .high } in
+    let s : RangeSoFar = record { k = at .k; low = at .low; high = at .high } in
     let d = remains-more COUNT-TOO-LARGE (insideC t) (takenC t) s (at .r) (at .left) _ (at .inv) (c .before .before .before .before .before .if2 .left) (inside-value t s ∙ c .before .before .before .before .before .before .before .before .if1 .taken) in
     simp (c .note2 .ensures, c .before .earlier2 .ensures, c .before .before .greatest .ensures, c .before .before .before .least .ensures, c .before .before .before .before .v .ensures .0, c .before .before .before .before .v .ensures .1) (rw (step-refusal t s (at .r)) at d)
 
@@ -81,9 +81,9 @@ unfolding turnsC
 returns-2 c =
     let at = c .before .before .before .before .before .before .before .loop in
     let t = c .before .before .before .before .before .before .before .before .args .t in
-    let s : Reached = record { k = at .k; low = at .low; high = at .high } in
+    let s : RangeSoFar = record { k = at .k; low = at .low; high = at .high } in
     let d = remains-none COUNT-TOO-LARGE (insideC t) (takenC t) s (at .r) (at .left) _ (at .inv) (inside-value t s ∙ c .before .before .before .if1 .left) in
-    (simp (c .note3 .ensures, first-zero) (rw (inside-refusal t s) at (d .refusal)), ap (λ (s : Reached). record { low = s .low; high = s .high }) (d .value))
+    (simp (c .note3 .ensures, first-zero) (rw (inside-refusal t s) at (d .refusal)), ap (λ (s : RangeSoFar). record { low = s .low; high = s .high }) (d .value))
 
 pub turns-spec : {M : Type 1} → statement M
 turns-spec =
