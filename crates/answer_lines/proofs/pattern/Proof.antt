@@ -6,9 +6,6 @@ use borrow.Author.Tests.{lt-ltb, le-ltb}
 use Rattle.answer_lines.proofs.pattern.Statement.{statement}
 use Rattle.answer_lines.proofs.pattern.Tie as tie
 
-count-requires : tie.Need-count-requires
-count-requires c κs = search needs
-
 mul-hex : tie.Need-mul-hex
 mul-hex c = omega (arith, pattern-fits _ _ _ (c .before .count .ensures) (c .if1 .taken))
 
@@ -27,4 +24,4 @@ unfolding pattern
 returns-2 c = simp (le-ltb _ _ (c .if1 .left), ← c .before .count .ensures)
 
 pub pattern-spec : {M : Type 1} → statement M
-pattern-spec = tie.close (tie.spec count-requires mul-hex add-hex hex-requires returns returns-2)
+pattern-spec = tie.close (tie.spec (λ c κs. search needs) mul-hex add-hex hex-requires returns returns-2)

@@ -4,9 +4,6 @@ use borrow.Author.Tests.{le-leb, lt-leb}
 use Rattle.answer_lines.proofs.refusal.Statement.{statement}
 use Rattle.answer_lines.proofs.refusal.Tie as tie
 
-pair-requires : tie.Need-pair-requires
-pair-requires c κs = search needs
-
 returns : tie.Need-returns
 unfolding refusal
 returns c = simp (← c .pair .ensures, le-leb _ _ (c .before .if1 .taken))
@@ -16,4 +13,4 @@ unfolding refusal
 returns-2 c = simp (lt-leb _ _ (c .if1 .left))
 
 pub refusal-spec : {M : Type 1} → statement M
-refusal-spec = tie.close (tie.spec pair-requires returns returns-2)
+refusal-spec = tie.close (tie.spec (λ c κs. search needs) returns returns-2)

@@ -2,12 +2,6 @@ use borrow.Author.Needs.{needs}
 use Rattle.boxes.proofs.after.Statement.{statement}
 use Rattle.boxes.proofs.after.Tie as tie
 
-enum-known-answer : tie.Need-enum-known-answer
-enum-known-answer c = search needs
-
-enum-known-answer-2 : tie.Need-enum-known-answer-2
-enum-known-answer-2 c = search needs
-
 returns : tie.Need-returns
 returns c = simp (c .before .answer .given .1)
 
@@ -15,4 +9,4 @@ returns-2 : tie.Need-returns-2
 returns-2 c = simp (c .before .answer2 .given .1)
 
 pub after-spec : {M : Type 1} → statement M
-after-spec = tie.close (tie.spec enum-known-answer enum-known-answer-2 returns returns-2)
+after-spec = tie.close (tie.spec (λ c. search needs) (λ c. search needs) returns returns-2)

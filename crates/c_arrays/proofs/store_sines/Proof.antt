@@ -5,18 +5,9 @@ use Rattle.c_arrays.specs.Records.{after, over}
 use Rattle.c_arrays.proofs.store_sines.Statement.{statement}
 use Rattle.c_arrays.proofs.store_sines.Tie as tie
 
-element-write-out : tie.Need-element-write-out
-element-write-out c = search needs
-
-element-write-out-2 : tie.Need-element-write-out-2
-element-write-out-2 c = search needs
-
 returns : tie.Need-returns
 unfolding after over
 returns c = (simp (c .if1 .taken, settled-none), simp (c .if1 .taken, settled-none))
-
-cast-result : tie.Need-cast-result
-cast-result c = search needs
 
 returns-2 : tie.Need-returns-2
 unfolding after over
@@ -28,4 +19,4 @@ returns-2 c =
 pub store-sines-spec : {M : Type 1} → statement M
 store-sines-spec =
     tie.close
-    (tie.spec element-write-out element-write-out-2 returns cast-result returns-2)
+    (tie.spec (λ c. search needs) (λ c. search needs) returns (λ c. search needs) returns-2)

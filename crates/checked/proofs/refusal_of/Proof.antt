@@ -4,9 +4,6 @@ use mathlib.Core.Path.{sym, _∙_}
 use Rattle.checked.proofs.refusal_of.Statement.{statement}
 use Rattle.checked.proofs.refusal_of.Tie as tie
 
-is-finite-requires : tie.Need-is-finite-requires
-is-finite-requires c κs = search needs
-
 returns : tie.Need-returns
 unfolding nine
 returns c = simp (sym (c .before .is-finite .ensures) ∙ c .if1 .taken)
@@ -16,4 +13,4 @@ unfolding nine
 returns-2 c = simp (sym (c .before .is-finite .ensures) ∙ c .if1 .left)
 
 pub refusal-of-spec : {M : Type 1} → statement M
-refusal-of-spec = tie.close (tie.spec is-finite-requires returns returns-2)
+refusal-of-spec = tie.close (tie.spec (λ c κs. search needs) returns returns-2)

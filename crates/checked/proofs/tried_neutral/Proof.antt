@@ -3,12 +3,9 @@ use Rattle.checked.specs.Tests.{neutralTest}
 use Rattle.checked.proofs.tried_neutral.Statement.{statement}
 use Rattle.checked.proofs.tried_neutral.Tie as tie
 
-fails-requires : tie.Need-fails-requires
-fails-requires c κs = search needs
-
 returns : tie.Need-returns
 unfolding neutralTest
 returns c = simp (c .fails .ensures)
 
 pub tried-neutral-spec : {M : Type 1} → statement M
-tried-neutral-spec = tie.close (tie.spec fails-requires returns)
+tried-neutral-spec = tie.close (tie.spec (λ c κs. search needs) returns)

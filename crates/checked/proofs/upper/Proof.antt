@@ -9,9 +9,6 @@ use Rattle.checked.proofs.upper.Tie as tie
 float-to-bits-b : tie.Need-float-to-bits-b
 float-to-bits-b c = own-no-nan (c .before .args .x) (c .if1 .left)
 
-sub-result : tie.Need-sub-result
-sub-result c = search needs
-
 float-from-bits-result : tie.Need-float-from-bits-result
 float-from-bits-result c = upper-no-nan (c .before .args .x) (subst T (sym (c .before .good .0 .1)) tt) (c .if1 .left)
 
@@ -23,4 +20,4 @@ returns-2 c = ap (ofBits binary64) (upper-bits _)
 
 pub upper-spec : {M : Type 1} → statement M
 upper-spec =
-    tie.close (tie.spec float-to-bits-b sub-result float-from-bits-result returns returns-2)
+    tie.close (tie.spec float-to-bits-b (λ c. search needs) float-from-bits-result returns returns-2)

@@ -12,12 +12,6 @@ use Rattle.decimals.proofs.thousandths.Tie as tie
 held : (c : tie.Start) → T (fits binary64 (c .args .x))
 held c = subst T (sym (c .good .0 .1)) tt
 
-bits-requires : tie.Need-bits-requires
-bits-requires c κs = search needs
-
-size-of-requires : tie.Need-size-of-requires
-size-of-requires c κs = search needs
-
 returns : tie.Need-returns
 unfolding settled
 returns c =
@@ -31,4 +25,4 @@ returns-2 c =
     many (o .before .args .x) (held (o .before)) (o .bits .result) (c .before .size-of .result) (o .bits .ensures) (c .before .size-of .ensures) (c .if1 .left)
 
 pub thousandths-spec : {M : Type 1} → statement M
-thousandths-spec = tie.close (tie.spec bits-requires size-of-requires returns returns-2)
+thousandths-spec = tie.close (tie.spec (λ c κs. search needs) (λ c κs. search needs) returns returns-2)

@@ -5,18 +5,6 @@ use mathlib.Core.Path.{sym}
 use Rattle.directions.proofs.unit.Statement.{statement}
 use Rattle.directions.proofs.unit.Tie as tie
 
-is-within3-requires : tie.Need-is-within3-requires
-is-within3-requires c κs = search needs
-
-fails-requires : tie.Need-fails-requires
-fails-requires c κs = search needs
-
-unit-requires : tie.Need-unit-requires
-unit-requires c κs = search needs
-
-settle-requires : tie.Need-settle-requires
-settle-requires c κs = search needs
-
 returns : tie.Need-returns
 unfolding unitDue
 returns c = simp (c .settle .ensures, c .before .unit .ensures .0, c .before .unit .ensures .1, c .before .before .if1 .taken, passing-none, ← c .before .before .before .fails .ensures, ← c .before .before .before .before .is-within3 .ensures)
@@ -28,4 +16,4 @@ returns-2 c = simp (← c .before .fails .ensures, ← c .before .before .is-wit
 pub unit-spec : {M : Type 1} → statement M
 unit-spec =
     tie.close
-    (tie.spec is-within3-requires fails-requires unit-requires settle-requires returns returns-2)
+    (tie.spec (λ c κs. search needs) (λ c κs. search needs) (λ c κs. search needs) (λ c κs. search needs) returns returns-2)

@@ -5,9 +5,6 @@ use Rattle.edge_file.specs.EdgeFile.{next}
 use Rattle.edge_file.proofs.next_number.Statement.{statement}
 use Rattle.edge_file.proofs.next_number.Tie as tie
 
-add-result : tie.Need-add-result
-add-result c = search needs
-
 returns : tie.Need-returns
 unfolding next
 returns c = omega arith
@@ -17,4 +14,4 @@ unfolding next
 returns-2 c = omega arith
 
 pub next-number-spec : {M : Type 1} → statement M
-next-number-spec = tie.close (tie.spec add-result returns returns-2)
+next-number-spec = tie.close (tie.spec (λ c. search needs) returns returns-2)

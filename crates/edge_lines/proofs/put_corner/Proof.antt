@@ -8,18 +8,6 @@ use borrow.Author.Needs.{needs}
 use Rattle.edge_lines.proofs.put_corner.Statement.{statement}
 use Rattle.edge_lines.proofs.put_corner.Tie as tie
 
-thousandths-requires : tie.Need-thousandths-requires
-thousandths-requires c κs = search needs
-
-earlier-requires : tie.Need-earlier-requires
-earlier-requires c κs = search needs
-
-put-whole-requires : tie.Need-put-whole-requires
-put-whole-requires c κs = search needs
-
-same-length : tie.Need-same-length
-same-length c = search needs
-
 returns : tie.Need-returns
 returns c =
     let p = c .before .before .put-whole in
@@ -35,4 +23,4 @@ returns c =
 pub put-corner-spec : {M : Type 1} → statement M
 put-corner-spec =
     tie.close
-    (tie.spec thousandths-requires earlier-requires put-whole-requires same-length returns)
+    (tie.spec (λ c κs. search needs) (λ c κs. search needs) (λ c κs. search needs) (λ c. search needs) returns)

@@ -8,21 +8,6 @@ use borrow.Author.Needs.{needs}
 use Rattle.edge_lines.proofs.put_corners.Statement.{statement}
 use Rattle.edge_lines.proofs.put_corners.Tie as tie
 
-slice-aggregate-put : tie.Need-slice-aggregate-put
-slice-aggregate-put c = search needs
-
-put-requires : tie.Need-put-requires
-put-requires c κs = search needs
-
-put-point-requires : tie.Need-put-point-requires
-put-point-requires c κs = search needs
-
-put-point-requires-2 : tie.Need-put-point-requires-2
-put-point-requires-2 c κs = search needs
-
-same-length : tie.Need-same-length
-same-length c = search needs
-
 returns : tie.Need-returns
 unfolding settled
 returns c =
@@ -41,9 +26,9 @@ pub put-corners-spec : {M : Type 1} → statement M
 put-corners-spec =
     tie.close
     (tie.spec
-    slice-aggregate-put
-    put-requires
-    put-point-requires
-    put-point-requires-2
-    same-length
+    (λ c. search needs)
+    (λ c κs. search needs)
+    (λ c κs. search needs)
+    (λ c κs. search needs)
+    (λ c. search needs)
     returns)

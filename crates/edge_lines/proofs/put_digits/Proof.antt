@@ -8,24 +8,6 @@ use borrow.Author.Needs.{needs}
 use Rattle.edge_lines.proofs.put_digits.Statement.{statement}
 use Rattle.edge_lines.proofs.put_digits.Tie as tie
 
-digits-requires : tie.Need-digits-requires
-digits-requires c κs = search needs
-
-sub-put : tie.Need-sub-put
-sub-put c = search needs
-
-part-put-start : tie.Need-part-put-start
-part-put-start c = search needs
-
-part-put-end : tie.Need-part-put-end
-part-put-end c = search needs
-
-put-requires : tie.Need-put-requires
-put-requires c κs = search needs
-
-same-length : tie.Need-same-length
-same-length c = search needs
-
 returns : tie.Need-returns
 returns c =
     let p = c .before .before .put in
@@ -36,4 +18,4 @@ returns c =
 pub put-digits-spec : {M : Type 1} → statement M
 put-digits-spec =
     tie.close
-    (tie.spec digits-requires sub-put part-put-start part-put-end put-requires same-length returns)
+    (tie.spec (λ c κs. search needs) (λ c. search needs) (λ c. search needs) (λ c. search needs) (λ c κs. search needs) (λ c. search needs) returns)

@@ -6,15 +6,6 @@ use borrow.Author.Needs.{needs}
 use Rattle.edge_lines.proofs.put_empty.Statement.{statement}
 use Rattle.edge_lines.proofs.put_empty.Tie as tie
 
-slice-aggregate-put : tie.Need-slice-aggregate-put
-slice-aggregate-put c = search needs
-
-put-requires : tie.Need-put-requires
-put-requires c κs = search needs
-
-same-length : tie.Need-same-length
-same-length c = search needs
-
 returns : tie.Need-returns
 returns c =
     let p = c .before .before .put in
@@ -22,4 +13,4 @@ returns c =
     (omega (arith, p .ensures .0), p .ensures .1 ∙ empty-is (s .args .out .now) 160 (s .pre))
 
 pub put-empty-spec : {M : Type 1} → statement M
-put-empty-spec = tie.close (tie.spec slice-aggregate-put put-requires same-length returns)
+put-empty-spec = tie.close (tie.spec (λ c. search needs) (λ c κs. search needs) (λ c. search needs) returns)

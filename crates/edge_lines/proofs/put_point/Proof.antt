@@ -7,18 +7,6 @@ use borrow.Author.Needs.{needs}
 use Rattle.edge_lines.proofs.put_point.Statement.{statement}
 use Rattle.edge_lines.proofs.put_point.Tie as tie
 
-put-corner-requires : tie.Need-put-corner-requires
-put-corner-requires c κs = search needs
-
-put-corner-requires-2 : tie.Need-put-corner-requires-2
-put-corner-requires-2 c κs = search needs
-
-put-corner-requires-3 : tie.Need-put-corner-requires-3
-put-corner-requires-3 c κs = search needs
-
-same-length : tie.Need-same-length
-same-length c = search needs
-
 returns : tie.Need-returns
 unfolding corner
 returns c =
@@ -35,4 +23,4 @@ returns c =
 pub put-point-spec : {M : Type 1} → statement M
 put-point-spec =
     tie.close
-    (tie.spec put-corner-requires put-corner-requires-2 put-corner-requires-3 same-length returns)
+    (tie.spec (λ c κs. search needs) (λ c κs. search needs) (λ c κs. search needs) (λ c. search needs) returns)

@@ -9,33 +9,6 @@ use borrow.Author.Needs.{needs}
 use Rattle.edge_lines.proofs.put_refused.Statement.{statement}
 use Rattle.edge_lines.proofs.put_refused.Tie as tie
 
-slice-aggregate-put : tie.Need-slice-aggregate-put
-slice-aggregate-put c = search needs
-
-put-requires : tie.Need-put-requires
-put-requires c κs = search needs
-
-put-digits-requires : tie.Need-put-digits-requires
-put-digits-requires c κs = search needs
-
-slice-aggregate-put-2 : tie.Need-slice-aggregate-put-2
-slice-aggregate-put-2 c = search needs
-
-put-requires-2 : tie.Need-put-requires-2
-put-requires-2 c κs = search needs
-
-put-digits-requires-2 : tie.Need-put-digits-requires-2
-put-digits-requires-2 c κs = search needs
-
-slice-aggregate-put-3 : tie.Need-slice-aggregate-put-3
-slice-aggregate-put-3 c = search needs
-
-put-requires-3 : tie.Need-put-requires-3
-put-requires-3 c κs = search needs
-
-same-length : tie.Need-same-length
-same-length c = search needs
-
 returns : tie.Need-returns
 unfolding bytes
 returns c =
@@ -60,13 +33,13 @@ pub put-refused-spec : {M : Type 1} → statement M
 put-refused-spec =
     tie.close
     (tie.spec
-    slice-aggregate-put
-    put-requires
-    put-digits-requires
-    slice-aggregate-put-2
-    put-requires-2
-    put-digits-requires-2
-    slice-aggregate-put-3
-    put-requires-3
-    same-length
+    (λ c. search needs)
+    (λ c κs. search needs)
+    (λ c κs. search needs)
+    (λ c. search needs)
+    (λ c κs. search needs)
+    (λ c κs. search needs)
+    (λ c. search needs)
+    (λ c κs. search needs)
+    (λ c. search needs)
     returns)

@@ -8,24 +8,6 @@ use Rattle.edge_lines.proofs.Before.{with-minus, without}
 use Rattle.edge_lines.proofs.put_whole.Statement.{statement}
 use Rattle.edge_lines.proofs.put_whole.Tie as tie
 
-put-digits-requires : tie.Need-put-digits-requires
-put-digits-requires c κs = search needs
-
-slice-aggregate-put : tie.Need-slice-aggregate-put
-slice-aggregate-put c = search needs
-
-put-requires : tie.Need-put-requires
-put-requires c κs = search needs
-
-slice-aggregate-put-2 : tie.Need-slice-aggregate-put-2
-slice-aggregate-put-2 c = search needs
-
-put-requires-2 : tie.Need-put-requires-2
-put-requires-2 c κs = search needs
-
-same-length : tie.Need-same-length
-same-length c = search needs
-
 returns : tie.Need-returns
 returns c =
     let t = c .before .before .before .before .before in
@@ -35,9 +17,6 @@ returns c =
       (omega (arith, p .ensures .0), omega (arith, p .ensures .0)),
       p .ensures .1 ∙ ap (λ l. 32 ∷ 45 ∷ l) (d .ensures .1) ∙ with-minus (a .size) (drop (a .at) (a .out .now)) (a .is-negative) (t .if1 .taken),
     )
-
-same-length-2 : tie.Need-same-length-2
-same-length-2 c = search needs
 
 returns-2 : tie.Need-returns-2
 returns-2 c =
@@ -53,12 +32,12 @@ pub put-whole-spec : {M : Type 1} → statement M
 put-whole-spec =
     tie.close
     (tie.spec
-    put-digits-requires
-    slice-aggregate-put
-    put-requires
-    slice-aggregate-put-2
-    put-requires-2
-    same-length
+    (λ c κs. search needs)
+    (λ c. search needs)
+    (λ c κs. search needs)
+    (λ c. search needs)
+    (λ c κs. search needs)
+    (λ c. search needs)
     returns
-    same-length-2
+    (λ c. search needs)
     returns-2)

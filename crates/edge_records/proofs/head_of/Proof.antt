@@ -6,21 +6,6 @@ use borrow.Author.Needs.{needs}
 use Rattle.edge_records.proofs.head_of.Statement.{statement}
 use Rattle.edge_records.proofs.head_of.Tie as tie
 
-tagged-requires : tie.Need-tagged-requires
-tagged-requires c κs = search needs
-
-mul-length : tie.Need-mul-length
-mul-length c = search needs
-
-add-length : tie.Need-add-length
-add-length c = search needs
-
-add-if1 : tie.Need-add-if1
-add-if1 c = search needs
-
-size-requires : tie.Need-size-requires
-size-requires c κs = search needs
-
 returns : tie.Need-returns
 returns c =
     let a = c .before .before .before .args in
@@ -37,4 +22,4 @@ returns-2 c =
     ∙ ap (headOf (a .tag)) (length-is (a .low) (a .high))
 
 pub head-of-spec : {M : Type 1} → statement M
-head-of-spec = tie.close (tie.spec tagged-requires mul-length add-length add-if1 size-requires returns returns-2)
+head-of-spec = tie.close (tie.spec (λ c κs. search needs) (λ c. search needs) (λ c. search needs) (λ c. search needs) (λ c κs. search needs) returns returns-2)

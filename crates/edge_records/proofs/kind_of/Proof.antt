@@ -10,21 +10,6 @@ use Rattle.edge_records.proofs.kind_of.Tie as tie
 returns : tie.Need-returns
 returns c = short-head (c .before .before .args .bytes .now) (c .if1 .taken)
 
-shared-slice-read-head-of : tie.Need-shared-slice-read-head-of
-shared-slice-read-head-of c = search needs
-
-shared-slice-read-head-of-2 : tie.Need-shared-slice-read-head-of-2
-shared-slice-read-head-of-2 c = search needs
-
-shared-slice-read-head-of-3 : tie.Need-shared-slice-read-head-of-3
-shared-slice-read-head-of-3 c = search needs
-
-head-of-requires : tie.Need-head-of-requires
-head-of-requires c κs = search needs
-
-size-requires : tie.Need-size-requires
-size-requires c κs = search needs
-
 returns-2 : tie.Need-returns-2
 returns-2 c =
     let s = c .before .before .before .before .before .before .before .before .args .bytes .now in
@@ -41,10 +26,10 @@ kind-of-spec =
     tie.close
     (tie.spec
     returns
-    shared-slice-read-head-of
-    shared-slice-read-head-of-2
-    shared-slice-read-head-of-3
-    head-of-requires
-    size-requires
+    (λ c. search needs)
+    (λ c. search needs)
+    (λ c. search needs)
+    (λ c κs. search needs)
+    (λ c κs. search needs)
     returns-2
     returns-3)

@@ -11,12 +11,6 @@ use Rattle.edge_records.specs.Records.{edgeOf, ofKind, recordOf}
 use Rattle.edge_records.proofs.record_of.Statement.{statement}
 use Rattle.edge_records.proofs.record_of.Tie as tie
 
-kind-of-requires : tie.Need-kind-of-requires
-kind-of-requires c κs = search needs
-
-enum-told : tie.Need-enum-told
-enum-told c = search needs
-
 sub-edge-of : tie.Need-sub-edge-of
 sub-edge-of c =
     let s = c .before .before .before .before .args .bytes .now in
@@ -27,22 +21,10 @@ part-edge-of-start c =
     let s = c .before .before .before .before .args .bytes .now in
     omega (arith, kind-long s kind.Arc (sym (c .before .before .kind-of .ensures) ∙ c .enum-told .given .1))
 
-part-edge-of-end : tie.Need-part-edge-of-end
-part-edge-of-end c = search needs
-
 edge-of-requires : tie.Need-edge-of-requires
 edge-of-requires c κs =
     let s = c .before .before .before .before .before .args .bytes .now in
     omega (arith, kind-long s kind.Arc (sym (c .before .before .before .kind-of .ensures) ∙ c .before .enum-told .given .1))
-
-enum-told-2 : tie.Need-enum-told-2
-enum-told-2 c = search needs
-
-enum-told-3 : tie.Need-enum-told-3
-enum-told-3 c = search needs
-
-enum-told-4 : tie.Need-enum-told-4
-enum-told-4 c = search needs
 
 returns : tie.Need-returns
 unfolding recordOf
@@ -67,15 +49,15 @@ pub record-of-spec : {M : Type 1} → statement M
 record-of-spec =
     tie.close
     (tie.spec
-    kind-of-requires
-    enum-told
+    (λ c κs. search needs)
+    (λ c. search needs)
     sub-edge-of
     part-edge-of-start
-    part-edge-of-end
+    (λ c. search needs)
     edge-of-requires
-    enum-told-2
-    enum-told-3
-    enum-told-4
+    (λ c. search needs)
+    (λ c. search needs)
+    (λ c. search needs)
     returns
     returns-2
     returns-3

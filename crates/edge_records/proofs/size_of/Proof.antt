@@ -5,15 +5,9 @@ use Rattle.edge_records.specs.Records.{sizeOfKind, sizeOf}
 use Rattle.edge_records.proofs.size_of.Statement.{statement}
 use Rattle.edge_records.proofs.size_of.Tie as tie
 
-kind-of-requires : tie.Need-kind-of-requires
-kind-of-requires c κs = search needs
-
-size-requires : tie.Need-size-requires
-size-requires c κs = search needs
-
 returns : tie.Need-returns
 unfolding sizeOf
 returns c = c .size .ensures ∙ ap sizeOfKind (c .before .kind-of .ensures)
 
 pub size-of-spec : {M : Type 1} → statement M
-size-of-spec = tie.close (tie.spec kind-of-requires size-requires returns)
+size-of-spec = tie.close (tie.spec (λ c κs. search needs) (λ c κs. search needs) returns)

@@ -4,15 +4,6 @@ use Rattle.integrals.specs.Along.{nodeAtC}
 use Rattle.face_paths.proofs.node_at.Statement.{statement}
 use Rattle.face_paths.proofs.node_at.Tie as tie
 
-place-at-requires : tie.Need-place-at-requires
-place-at-requires c κs = search needs
-
-earlier-requires : tie.Need-earlier-requires
-earlier-requires c κs = search needs
-
-node-requires : tie.Need-node-requires
-node-requires c κs = search needs
-
 returns : tie.Need-returns
 unfolding nodeAtC
 returns c =
@@ -20,4 +11,4 @@ returns c =
     (simp (c .node .ensures .0, c .before .earlier .ensures, p .0, p .1, first-assoc), simp (c .node .ensures .1, p .1))
 
 pub node-at-spec : {M : Type 1} → statement M
-node-at-spec = tie.close (tie.spec place-at-requires earlier-requires node-requires returns)
+node-at-spec = tie.close (tie.spec (λ c κs. search needs) (λ c κs. search needs) (λ c κs. search needs) returns)

@@ -5,18 +5,6 @@ use Rattle.face_paths.specs.Paths.{facePathAt, withArcC}
 use Rattle.face_paths.proofs.with_arc.Statement.{statement}
 use Rattle.face_paths.proofs.with_arc.Tie as tie
 
-revolve-requires : tie.Need-revolve-requires
-revolve-requires c κs = search needs
-
-arc-path-of-requires : tie.Need-arc-path-of-requires
-arc-path-of-requires c κs = search needs
-
-earlier-requires : tie.Need-earlier-requires
-earlier-requires c κs = search needs
-
-along-requires : tie.Need-along-requires
-along-requires c κs = search needs
-
 returns : tie.Need-returns
 unfolding withArcC arcPathC facePathAt
 returns c =
@@ -28,4 +16,4 @@ returns c =
 pub with-arc-spec : {M : Type 1} → statement M
 with-arc-spec =
     tie.close
-    (tie.spec revolve-requires arc-path-of-requires earlier-requires along-requires returns)
+    (tie.spec (λ c κs. search needs) (λ c κs. search needs) (λ c κs. search needs) (λ c κs. search needs) returns)

@@ -4,27 +4,6 @@ use Rattle.face_paths.specs.Paths.{facePathAt, piecePathC, withPieceC}
 use Rattle.face_paths.proofs.with_piece.Statement.{statement}
 use Rattle.face_paths.proofs.with_piece.Tie as tie
 
-revolve-requires : tie.Need-revolve-requires
-revolve-requires c κs = search needs
-
-curve-of-requires : tie.Need-curve-of-requires
-curve-of-requires c κs = search needs
-
-piece-path-of-requires : tie.Need-piece-path-of-requires
-piece-path-of-requires c κs = search needs
-
-quadrature-pieces-requires : tie.Need-quadrature-pieces-requires
-quadrature-pieces-requires c κs = search needs
-
-earlier-requires : tie.Need-earlier-requires
-earlier-requires c κs = search needs
-
-earlier-requires-2 : tie.Need-earlier-requires-2
-earlier-requires-2 c κs = search needs
-
-along-requires : tie.Need-along-requires
-along-requires c κs = search needs
-
 returns : tie.Need-returns
 unfolding withPieceC piecePathC facePathAt
 returns c =
@@ -39,11 +18,11 @@ pub with-piece-spec : {M : Type 1} → statement M
 with-piece-spec =
     tie.close
     (tie.spec
-    revolve-requires
-    curve-of-requires
-    piece-path-of-requires
-    quadrature-pieces-requires
-    earlier-requires
-    earlier-requires-2
-    along-requires
+    (λ c κs. search needs)
+    (λ c κs. search needs)
+    (λ c κs. search needs)
+    (λ c κs. search needs)
+    (λ c κs. search needs)
+    (λ c κs. search needs)
+    (λ c κs. search needs)
     returns)

@@ -4,12 +4,6 @@ use Rattle.integrals.specs.Gauss.{lies}
 use Rattle.integrals.proofs.lies.Statement.{statement}
 use Rattle.integrals.proofs.lies.Tie as tie
 
-mul-off : tie.Need-mul-off
-mul-off c = search needs
-
-array-read-off : tie.Need-array-read-off
-array-read-off c = search needs
-
 returns : tie.Need-returns
 unfolding lies
 returns c = simp (eq-eqb _ _ (c .if1 .taken))
@@ -19,4 +13,4 @@ unfolding lies
 returns-2 c = simp (ne-eqb _ _ (c .if1 .left))
 
 pub lies-spec : {M : Type 1} → statement M
-lies-spec = tie.close (tie.spec mul-off array-read-off returns returns-2)
+lies-spec = tie.close (tie.spec (λ c. search needs) (λ c. search needs) returns returns-2)

@@ -3,12 +3,6 @@ use borrow.Author.Needs.{needs}
 use Rattle.piece_arrays.proofs.arc_tag.Statement.{statement}
 use Rattle.piece_arrays.proofs.arc_tag.Tie as tie
 
-enum-told : tie.Need-enum-told
-enum-told c = search needs
-
-enum-known-arc : tie.Need-enum-known-arc
-enum-known-arc c = search needs
-
 returns : tie.Need-returns
 unfolding arcTag
 returns c = simp (c .enum-told .given .1)
@@ -22,4 +16,4 @@ unfolding arcTag
 returns-3 c = simp (c .if1 .left, c .before .before .arc .given .1)
 
 pub arc-tag-spec : {M : Type 1} → statement M
-arc-tag-spec = tie.close (tie.spec enum-told enum-known-arc returns returns-2 returns-3)
+arc-tag-spec = tie.close (tie.spec (λ c. search needs) (λ c. search needs) returns returns-2 returns-3)

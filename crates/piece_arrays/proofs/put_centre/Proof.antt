@@ -6,21 +6,6 @@ use borrow.Author.Needs.{needs}
 use Rattle.piece_arrays.proofs.put_centre.Statement.{statement}
 use Rattle.piece_arrays.proofs.put_centre.Tie as tie
 
-enum-told : tie.Need-enum-told
-enum-told c = search needs
-
-enum-known-arc : tie.Need-enum-known-arc
-enum-known-arc c = search needs
-
-slice-write-out : tie.Need-slice-write-out
-slice-write-out c = search needs
-
-add-out : tie.Need-add-out
-add-out c = search needs
-
-mul-out : tie.Need-mul-out
-mul-out c = search needs
-
 slice-write-out-2 : tie.Need-slice-write-out-2
 slice-write-out-2 c = simp length-set (omega arith)
 
@@ -28,12 +13,9 @@ returns : tie.Need-returns
 unfolding over ofCentre
 returns c = simp (c .enum-told .given .1)
 
-same-length : tie.Need-same-length
-same-length c = search needs
-
 returns-2 : tie.Need-returns-2
 unfolding over ofCentre
 returns-2 c = simp (c .before .arc .given .1)
 
 pub put-centre-spec : {M : Type 1} → statement M
-put-centre-spec = tie.close (tie.spec enum-told enum-known-arc slice-write-out add-out mul-out slice-write-out-2 returns same-length returns-2)
+put-centre-spec = tie.close (tie.spec (λ c. search needs) (λ c. search needs) (λ c. search needs) (λ c. search needs) (λ c. search needs) slice-write-out-2 returns (λ c. search needs) returns-2)

@@ -5,78 +5,30 @@ use borrow.Author.Needs.{needs}
 use Rattle.piece_arrays.proofs.put_cylinder.Statement.{statement}
 use Rattle.piece_arrays.proofs.put_cylinder.Tie as tie
 
-slice-write-out : tie.Need-slice-write-out
-slice-write-out c = search needs
-
-add-out : tie.Need-add-out
-add-out c = search needs
-
-mul-out : tie.Need-mul-out
-mul-out c = search needs
-
 slice-write-out-2 : tie.Need-slice-write-out-2
 slice-write-out-2 c = simp length-set (omega arith)
-
-add-out-2 : tie.Need-add-out-2
-add-out-2 c = search needs
-
-mul-out-2 : tie.Need-mul-out-2
-mul-out-2 c = search needs
 
 slice-write-out-3 : tie.Need-slice-write-out-3
 slice-write-out-3 c = simp length-set (omega arith)
 
-add-out-3 : tie.Need-add-out-3
-add-out-3 c = search needs
-
-mul-out-3 : tie.Need-mul-out-3
-mul-out-3 c = search needs
-
 slice-write-out-4 : tie.Need-slice-write-out-4
 slice-write-out-4 c = simp length-set (omega arith)
-
-add-out-4 : tie.Need-add-out-4
-add-out-4 c = search needs
-
-mul-out-4 : tie.Need-mul-out-4
-mul-out-4 c = search needs
 
 slice-write-out-5 : tie.Need-slice-write-out-5
 slice-write-out-5 c = simp length-set (omega arith)
 
-add-out-5 : tie.Need-add-out-5
-add-out-5 c = search needs
-
-mul-out-5 : tie.Need-mul-out-5
-mul-out-5 c = search needs
-
 slice-write-out-6 : tie.Need-slice-write-out-6
 slice-write-out-6 c = simp length-set (omega arith)
-
-add-out-6 : tie.Need-add-out-6
-add-out-6 c = search needs
-
-mul-out-6 : tie.Need-mul-out-6
-mul-out-6 c = search needs
 
 slice-write-out-7 : tie.Need-slice-write-out-7
 slice-write-out-7 c = simp length-set (omega arith)
 
-add-out-7 : tie.Need-add-out-7
-add-out-7 c = search needs
-
-mul-out-7 : tie.Need-mul-out-7
-mul-out-7 c = search needs
-
 slice-write-out-8 : tie.Need-slice-write-out-8
 slice-write-out-8 c = simp length-set (omega arith)
-
-same-length : tie.Need-same-length
-same-length c = search needs
 
 returns : tie.Need-returns
 unfolding over
 returns c = search needs
 
 pub put-cylinder-spec : {M : Type 1} → statement M
-put-cylinder-spec = tie.close (tie.spec slice-write-out add-out mul-out slice-write-out-2 add-out-2 mul-out-2 slice-write-out-3 add-out-3 mul-out-3 slice-write-out-4 add-out-4 mul-out-4 slice-write-out-5 add-out-5 mul-out-5 slice-write-out-6 add-out-6 mul-out-6 slice-write-out-7 add-out-7 mul-out-7 slice-write-out-8 same-length returns)
+put-cylinder-spec = tie.close (tie.spec (λ c. search needs) (λ c. search needs) (λ c. search needs) slice-write-out-2 (λ c. search needs) (λ c. search needs) slice-write-out-3 (λ c. search needs) (λ c. search needs) slice-write-out-4 (λ c. search needs) (λ c. search needs) slice-write-out-5 (λ c. search needs) (λ c. search needs) slice-write-out-6 (λ c. search needs) (λ c. search needs) slice-write-out-7 (λ c. search needs) (λ c. search needs) slice-write-out-8 (λ c. search needs) returns)

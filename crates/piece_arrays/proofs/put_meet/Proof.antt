@@ -4,18 +4,9 @@ use borrow.Author.Needs.{needs}
 use Rattle.piece_arrays.proofs.put_meet.Statement.{statement}
 use Rattle.piece_arrays.proofs.put_meet.Tie as tie
 
-put-cylinder-requires : tie.Need-put-cylinder-requires
-put-cylinder-requires c κs = search needs
-
-put-turn-requires : tie.Need-put-turn-requires
-put-turn-requires c κs = search needs
-
-same-length : tie.Need-same-length
-same-length c = search needs
-
 returns : tie.Need-returns
 unfolding over ofMeet
 returns c = simp (c .before .before .put-turn .ensures, c .before .before .before .before .before .before .put-cylinder .ensures)
 
 pub put-meet-spec : {M : Type 1} → statement M
-put-meet-spec = tie.close (tie.spec put-cylinder-requires put-turn-requires same-length returns)
+put-meet-spec = tie.close (tie.spec (λ c κs. search needs) (λ c κs. search needs) (λ c. search needs) returns)

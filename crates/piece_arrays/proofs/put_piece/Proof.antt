@@ -7,21 +7,6 @@ use borrow.Author.Needs.{needs}
 use Rattle.piece_arrays.proofs.put_piece.Statement.{statement}
 use Rattle.piece_arrays.proofs.put_piece.Tie as tie
 
-put-development-requires : tie.Need-put-development-requires
-put-development-requires c κs = search needs
-
-put-ends-requires : tie.Need-put-ends-requires
-put-ends-requires c κs = search needs
-
-put-centre-requires : tie.Need-put-centre-requires
-put-centre-requires c κs = search needs
-
-put-trace-requires : tie.Need-put-trace-requires
-put-trace-requires c κs = search needs
-
-same-length : tie.Need-same-length
-same-length c = search needs
-
 returns : tie.Need-returns
 unfolding withPiece
 returns c =
@@ -32,4 +17,4 @@ returns c =
     ∙ ap (λ (l : List Float). over l FROM (ofEnds (p .from) (p .to))) (c .before .before .before .before .before .before .before .before .before .before .before .before .before .before .put-development .ensures)))
 
 pub put-piece-spec : {M : Type 1} → statement M
-put-piece-spec = tie.close (tie.spec put-development-requires put-ends-requires put-centre-requires put-trace-requires same-length returns)
+put-piece-spec = tie.close (tie.spec (λ c κs. search needs) (λ c κs. search needs) (λ c κs. search needs) (λ c κs. search needs) (λ c. search needs) returns)

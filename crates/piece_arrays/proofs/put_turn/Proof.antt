@@ -6,21 +6,6 @@ use borrow.Author.Needs.{needs}
 use Rattle.piece_arrays.proofs.put_turn.Statement.{statement}
 use Rattle.piece_arrays.proofs.put_turn.Tie as tie
 
-enum-told : tie.Need-enum-told
-enum-told c = search needs
-
-enum-known-turn : tie.Need-enum-known-turn
-enum-known-turn c = search needs
-
-slice-write-out : tie.Need-slice-write-out
-slice-write-out c = search needs
-
-add-out : tie.Need-add-out
-add-out c = search needs
-
-mul-out : tie.Need-mul-out
-mul-out c = search needs
-
 slice-write-out-2 : tie.Need-slice-write-out-2
 slice-write-out-2 c = simp length-set (omega arith)
 
@@ -28,12 +13,9 @@ returns : tie.Need-returns
 unfolding over ofTurn
 returns c = simp (c .enum-told .given .1)
 
-same-length : tie.Need-same-length
-same-length c = search needs
-
 returns-2 : tie.Need-returns-2
 unfolding over ofTurn
 returns-2 c = simp (c .before .turn .given .1)
 
 pub put-turn-spec : {M : Type 1} → statement M
-put-turn-spec = tie.close (tie.spec enum-told enum-known-turn slice-write-out add-out mul-out slice-write-out-2 returns same-length returns-2)
+put-turn-spec = tie.close (tie.spec (λ c. search needs) (λ c. search needs) (λ c. search needs) (λ c. search needs) (λ c. search needs) slice-write-out-2 returns (λ c. search needs) returns-2)

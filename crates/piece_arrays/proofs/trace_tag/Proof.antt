@@ -3,24 +3,6 @@ use borrow.Author.Needs.{needs}
 use Rattle.piece_arrays.proofs.trace_tag.Statement.{statement}
 use Rattle.piece_arrays.proofs.trace_tag.Tie as tie
 
-enum-told : tie.Need-enum-told
-enum-told c = search needs
-
-enum-known-trace : tie.Need-enum-known-trace
-enum-known-trace c = search needs
-
-enum-told-2 : tie.Need-enum-told-2
-enum-told-2 c = search needs
-
-enum-known-t : tie.Need-enum-known-t
-enum-known-t c = search needs
-
-enum-told-3 : tie.Need-enum-told-3
-enum-told-3 c = search needs
-
-enum-told-4 : tie.Need-enum-told-4
-enum-told-4 c = search needs
-
 returns : tie.Need-returns
 unfolding traceTag turnTag
 returns c = simp (c .enum-told .given .1)
@@ -38,4 +20,4 @@ unfolding traceTag turnTag
 returns-4 c = simp (c .enum-told4 .given .1, c .before .before .before .t .given .1, c .before .before .before .before .before .before .trace .given .1)
 
 pub trace-tag-spec : {M : Type 1} → statement M
-trace-tag-spec = tie.close (tie.spec enum-told enum-known-trace enum-told-2 enum-known-t enum-told-3 enum-told-4 returns returns-2 returns-3 returns-4)
+trace-tag-spec = tie.close (tie.spec (λ c. search needs) (λ c. search needs) (λ c. search needs) (λ c. search needs) (λ c. search needs) (λ c. search needs) returns returns-2 returns-3 returns-4)

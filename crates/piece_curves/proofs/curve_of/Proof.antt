@@ -4,9 +4,6 @@ use Rattle.checked.specs.Laws.{rules as checked-rules}
 use Rattle.piece_curves.proofs.curve_of.Statement.{statement}
 use Rattle.piece_curves.proofs.curve_of.Tie as tie
 
-way-of-requires : tie.Need-way-of-requires
-way-of-requires c κs = search needs
-
 returns : tie.Need-returns
 unfolding curveC
 returns c = (simp (c .way-of .ensures .0, c .way-of .ensures .1, checked-rules), simp (c .way-of .ensures .1))
@@ -15,5 +12,5 @@ pub curve-of-spec : {M : Type 1} → statement M
 curve-of-spec =
     tie.close
     (tie.spec
-    way-of-requires
+    (λ c κs. search needs)
     returns)

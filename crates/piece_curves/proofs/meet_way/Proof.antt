@@ -4,9 +4,6 @@ use Rattle.checked.specs.Laws.{rules as checked-rules}
 use Rattle.piece_curves.proofs.meet_way.Statement.{statement}
 use Rattle.piece_curves.proofs.meet_way.Tie as tie
 
-pipe-requires : tie.Need-pipe-requires
-pipe-requires c κs = search needs
-
 returns : tie.Need-returns
 unfolding meetKindC
 returns c = (simp (c .before .pipe .ensures .0, c .before .pipe .ensures .1, checked-rules), simp (c .before .pipe .ensures .1))
@@ -15,5 +12,5 @@ pub meet-way-spec : {M : Type 1} → statement M
 meet-way-spec =
     tie.close
     (tie.spec
-    pipe-requires
+    (λ c κs. search needs)
     returns)

@@ -3,15 +3,6 @@ use Rattle.piece_curves.specs.PieceCurves.{tracedC}
 use Rattle.piece_curves.proofs.traced.Statement.{statement}
 use Rattle.piece_curves.proofs.traced.Tie as tie
 
-enum-known-t : tie.Need-enum-known-t
-enum-known-t c = search needs
-
-enum-known-t-2 : tie.Need-enum-known-t-2
-enum-known-t-2 c = search needs
-
-meet-way-requires : tie.Need-meet-way-requires
-meet-way-requires c κs = search needs
-
 returns : tie.Need-returns
 unfolding tracedC
 returns c = (simp (c .before .t .given .1), simp (c .before .t .given .1))
@@ -24,8 +15,8 @@ pub traced-spec : {M : Type 1} → statement M
 traced-spec =
     tie.close
     (tie.spec
-    enum-known-t
-    enum-known-t-2
-    meet-way-requires
+    (λ c. search needs)
+    (λ c. search needs)
+    (λ c κs. search needs)
     returns
     returns-2)

@@ -3,12 +3,6 @@ use Rattle.piece_curves.specs.PieceCurves.{untraced}
 use Rattle.piece_curves.proofs.untraced.Statement.{statement}
 use Rattle.piece_curves.proofs.untraced.Tie as tie
 
-enum-told : tie.Need-enum-told
-enum-told c = search needs
-
-enum-known-arc : tie.Need-enum-known-arc
-enum-known-arc c = search needs
-
 returns : tie.Need-returns
 unfolding untraced
 returns c = simp (c .enum-told .given .1)
@@ -21,7 +15,7 @@ pub untraced-spec : {M : Type 1} → statement M
 untraced-spec =
     tie.close
     (tie.spec
-    enum-told
-    enum-known-arc
+    (λ c. search needs)
+    (λ c. search needs)
     returns
     returns-2)

@@ -3,18 +3,6 @@ use Rattle.piece_curves.specs.PieceCurves.{kindC}
 use Rattle.piece_curves.proofs.way_of.Statement.{statement}
 use Rattle.piece_curves.proofs.way_of.Tie as tie
 
-enum-told : tie.Need-enum-told
-enum-told c = search needs
-
-untraced-requires : tie.Need-untraced-requires
-untraced-requires c κs = search needs
-
-enum-known-trace : tie.Need-enum-known-trace
-enum-known-trace c = search needs
-
-traced-requires : tie.Need-traced-requires
-traced-requires c κs = search needs
-
 returns : tie.Need-returns
 unfolding kindC
 returns c = (simp (c .untraced .ensures, c .before .enum-told .given .1), simp (c .untraced .ensures, c .before .enum-told .given .1))
@@ -27,9 +15,9 @@ pub way-of-spec : {M : Type 1} → statement M
 way-of-spec =
     tie.close
     (tie.spec
-    enum-told
-    untraced-requires
-    enum-known-trace
-    traced-requires
+    (λ c. search needs)
+    (λ c κs. search needs)
+    (λ c. search needs)
+    (λ c κs. search needs)
     returns
     returns-2)

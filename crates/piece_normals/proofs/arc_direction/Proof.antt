@@ -4,18 +4,6 @@ use Rattle.checked.specs.Laws.{rules as checked-rules}
 use Rattle.piece_normals.proofs.arc_direction.Statement.{statement}
 use Rattle.piece_normals.proofs.arc_direction.Tie as tie
 
-note-requires : tie.Need-note-requires
-note-requires c κs = search needs
-
-note-requires-2 : tie.Need-note-requires-2
-note-requires-2 c κs = search needs
-
-note-requires-3 : tie.Need-note-requires-3
-note-requires-3 c κs = search needs
-
-note-requires-4 : tie.Need-note-requires-4
-note-requires-4 c κs = search needs
-
 returns : tie.Need-returns
 unfolding arcC
 returns c = (simp (c .note2 .ensures, c .before .note .ensures, c .before .before .before .before .before .before .if1 .taken, checked-rules), simp (c .before .before .before .before .before .before .if1 .taken))
@@ -28,9 +16,9 @@ pub arc-direction-spec : {M : Type 1} → statement M
 arc-direction-spec =
     tie.close
     (tie.spec
-    note-requires
-    note-requires-2
-    note-requires-3
-    note-requires-4
+    (λ c κs. search needs)
+    (λ c κs. search needs)
+    (λ c κs. search needs)
+    (λ c κs. search needs)
     returns
     returns-2)

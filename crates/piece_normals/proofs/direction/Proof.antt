@@ -3,18 +3,6 @@ use Rattle.piece_normals.specs.Normals.{directionC}
 use Rattle.piece_normals.proofs.direction.Statement.{statement}
 use Rattle.piece_normals.proofs.direction.Tie as tie
 
-enum-told : tie.Need-enum-told
-enum-told c = search needs
-
-without-arc-requires : tie.Need-without-arc-requires
-without-arc-requires c κs = search needs
-
-enum-known-arc : tie.Need-enum-known-arc
-enum-known-arc c = search needs
-
-arc-direction-requires : tie.Need-arc-direction-requires
-arc-direction-requires c κs = search needs
-
 returns : tie.Need-returns
 unfolding directionC
 returns c = (simp (c .without-arc .ensures .0, c .before .enum-told .given .1), simp (c .without-arc .ensures .1, c .before .enum-told .given .1))
@@ -27,9 +15,9 @@ pub direction-spec : {M : Type 1} → statement M
 direction-spec =
     tie.close
     (tie.spec
-    enum-told
-    without-arc-requires
-    enum-known-arc
-    arc-direction-requires
+    (λ c. search needs)
+    (λ c κs. search needs)
+    (λ c. search needs)
+    (λ c κs. search needs)
     returns
     returns-2)

@@ -3,18 +3,6 @@ use Rattle.piece_normals.specs.Normals.{meetC}
 use Rattle.piece_normals.proofs.meet_direction.Statement.{statement}
 use Rattle.piece_normals.proofs.meet_direction.Tie as tie
 
-enum-told : tie.Need-enum-told
-enum-told c = search needs
-
-own-direction-requires : tie.Need-own-direction-requires
-own-direction-requires c κs = search needs
-
-enum-told-2 : tie.Need-enum-told-2
-enum-told-2 c = search needs
-
-hole-direction-requires : tie.Need-hole-direction-requires
-hole-direction-requires c κs = search needs
-
 returns : tie.Need-returns
 unfolding meetC
 returns c = (simp (c .own-direction .ensures .0, c .before .enum-told .given .1), simp (c .own-direction .ensures .1, c .before .enum-told .given .1))
@@ -27,9 +15,9 @@ pub meet-direction-spec : {M : Type 1} → statement M
 meet-direction-spec =
     tie.close
     (tie.spec
-    enum-told
-    own-direction-requires
-    enum-told-2
-    hole-direction-requires
+    (λ c. search needs)
+    (λ c κs. search needs)
+    (λ c. search needs)
+    (λ c κs. search needs)
     returns
     returns-2)

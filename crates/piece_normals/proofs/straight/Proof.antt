@@ -5,12 +5,6 @@ use mathlib.Core.Path.{refl}
 use Rattle.piece_normals.proofs.straight.Statement.{statement}
 use Rattle.piece_normals.proofs.straight.Tie as tie
 
-note-requires : tie.Need-note-requires
-note-requires c κs = search needs
-
-note-requires-2 : tie.Need-note-requires-2
-note-requires-2 c κs = search needs
-
 returns : tie.Need-returns
 unfolding straightC
 returns c = (simp (c .note2 .ensures, c .before .note .ensures, checked-rules), refl)
@@ -19,6 +13,6 @@ pub straight-spec : {M : Type 1} → statement M
 straight-spec =
     tie.close
     (tie.spec
-    note-requires
-    note-requires-2
+    (λ c κs. search needs)
+    (λ c κs. search needs)
     returns)

@@ -3,18 +3,6 @@ use Rattle.piece_normals.specs.Normals.{tracedC}
 use Rattle.piece_normals.proofs.traced.Statement.{statement}
 use Rattle.piece_normals.proofs.traced.Tie as tie
 
-enum-known-t : tie.Need-enum-known-t
-enum-known-t c = search needs
-
-wave-direction-requires : tie.Need-wave-direction-requires
-wave-direction-requires c κs = search needs
-
-enum-known-t-2 : tie.Need-enum-known-t-2
-enum-known-t-2 c = search needs
-
-meet-direction-requires : tie.Need-meet-direction-requires
-meet-direction-requires c κs = search needs
-
 returns : tie.Need-returns
 unfolding tracedC
 returns c = (simp (c .wave-direction .ensures .0, c .before .before .t .given .1), simp (c .wave-direction .ensures .1, c .before .before .t .given .1))
@@ -27,9 +15,9 @@ pub traced-spec : {M : Type 1} → statement M
 traced-spec =
     tie.close
     (tie.spec
-    enum-known-t
-    wave-direction-requires
-    enum-known-t-2
-    meet-direction-requires
+    (λ c. search needs)
+    (λ c κs. search needs)
+    (λ c. search needs)
+    (λ c κs. search needs)
     returns
     returns-2)

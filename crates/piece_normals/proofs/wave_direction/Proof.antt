@@ -4,18 +4,6 @@ use Rattle.checked.specs.Laws.{rules as checked-rules}
 use Rattle.piece_normals.proofs.wave_direction.Statement.{statement}
 use Rattle.piece_normals.proofs.wave_direction.Tie as tie
 
-slope-requires : tie.Need-slope-requires
-slope-requires c κs = search needs
-
-note-requires : tie.Need-note-requires
-note-requires c κs = search needs
-
-earlier-requires : tie.Need-earlier-requires
-earlier-requires c κs = search needs
-
-note-requires-2 : tie.Need-note-requires-2
-note-requires-2 c κs = search needs
-
 returns : tie.Need-returns
 unfolding waveC
 returns c = (simp (c .note2 .ensures, c .before .earlier .ensures, c .before .before .note .ensures, c .before .before .before .before .slope .ensures .0, c .before .before .before .before .slope .ensures .1, checked-rules), simp (c .before .before .before .before .slope .ensures .1))
@@ -24,8 +12,8 @@ pub wave-direction-spec : {M : Type 1} → statement M
 wave-direction-spec =
     tie.close
     (tie.spec
-    slope-requires
-    note-requires
-    earlier-requires
-    note-requires-2
+    (λ c κs. search needs)
+    (λ c κs. search needs)
+    (λ c κs. search needs)
+    (λ c κs. search needs)
     returns)

@@ -3,18 +3,6 @@ use Rattle.piece_normals.specs.Normals.{withoutArcC}
 use Rattle.piece_normals.proofs.without_arc.Statement.{statement}
 use Rattle.piece_normals.proofs.without_arc.Tie as tie
 
-enum-told : tie.Need-enum-told
-enum-told c = search needs
-
-straight-requires : tie.Need-straight-requires
-straight-requires c κs = search needs
-
-enum-known-trace : tie.Need-enum-known-trace
-enum-known-trace c = search needs
-
-traced-requires : tie.Need-traced-requires
-traced-requires c κs = search needs
-
 returns : tie.Need-returns
 unfolding withoutArcC
 returns c = (simp (c .straight .ensures .0, c .before .enum-told .given .1), simp (c .straight .ensures .1, c .before .enum-told .given .1))
@@ -27,9 +15,9 @@ pub without-arc-spec : {M : Type 1} → statement M
 without-arc-spec =
     tie.close
     (tie.spec
-    enum-told
-    straight-requires
-    enum-known-trace
-    traced-requires
+    (λ c. search needs)
+    (λ c κs. search needs)
+    (λ c. search needs)
+    (λ c κs. search needs)
     returns
     returns-2)

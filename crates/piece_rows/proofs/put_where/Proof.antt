@@ -2,12 +2,6 @@ use borrow.Author.Needs.{needs}
 use Rattle.piece_rows.proofs.put_where.Statement.{statement}
 use Rattle.piece_rows.proofs.put_where.Tie as tie
 
-put-requires : tie.Need-put-requires
-put-requires c κs = search needs
-
-same-length : tie.Need-same-length
-same-length c = search needs
-
 returns : tie.Need-returns
 returns c = simp (c .before .before .before .before .if1 .taken, c .before .before .put .ensures)
 
@@ -18,7 +12,7 @@ pub put-where-spec : {M : Type 1} → statement M
 put-where-spec =
     tie.close
     (tie.spec
-    put-requires
-    same-length
+    (λ c κs. search needs)
+    (λ c. search needs)
     returns
     returns-2)

@@ -9,15 +9,6 @@ use Rattle.piece_rows.specs.Laws.{inners-are}
 use Rattle.piece_rows.proofs.write_points.Statement.{statement}
 use Rattle.piece_rows.proofs.write_points.Tie as tie
 
-less-one-requires : tie.Need-less-one-requires
-less-one-requires c κs = search needs
-
-write-requires : tie.Need-write-requires
-write-requires c κs = search needs
-
-same-length : tie.Need-same-length
-same-length c = search needs
-
 returns : tie.Need-returns
 returns c =
     let start = c .before .before .before .before .before .before .before .args in
@@ -29,9 +20,6 @@ returns c =
       part = simp (is, m) (sym (part-length point _ _ _ _ (sym (simp m at (w .0)) ∙ c .if1 .taken)));
       rest = simp (is, w .1, m);
     }
-
-same-length-2 : tie.Need-same-length-2
-same-length-2 c = search needs
 
 returns-2 : tie.Need-returns-2
 returns-2 c =
@@ -50,9 +38,9 @@ pub write-points-spec : {M : Type 1} → statement M
 write-points-spec =
     tie.close
     (tie.spec
-    less-one-requires
-    write-requires
-    same-length
+    (λ c κs. search needs)
+    (λ c κs. search needs)
+    (λ c. search needs)
     returns
-    same-length-2
+    (λ c. search needs)
     returns-2)

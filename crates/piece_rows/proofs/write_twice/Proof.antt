@@ -8,15 +8,6 @@ use Rattle.rows.specs.Laws.{flat-length, some-due, some-refused}
 use Rattle.piece_rows.proofs.write_twice.Statement.{statement}
 use Rattle.piece_rows.proofs.write_twice.Tie as tie
 
-work-out-requires : tie.Need-work-out-requires
-work-out-requires c κs = search needs
-
-work-out-requires-2 : tie.Need-work-out-requires-2
-work-out-requires-2 c κs = search needs
-
-same-length : tie.Need-same-length
-same-length c = search needs
-
 returns : tie.Need-returns
 returns c =
     let noted = c .before .before .before .before .before .before .before in
@@ -26,9 +17,6 @@ returns c =
     let r : first 0 (upTo f (start .m) .refusal) ≡ noted .work-out .result = simp (zero-first, noted .work-out .ensures .0) in
     let due = some-due 0 f (start .m) (r ∙ none) in
     (simp (due, none), simp (due, c .before .before .work-out2 .ensures .1, noted .work-out .ensures .1, flat-length))
-
-same-length-2 : tie.Need-same-length-2
-same-length-2 c = search needs
 
 returns-2 : tie.Need-returns-2
 returns-2 c =
@@ -43,9 +31,9 @@ pub write-twice-spec : {M : Type 1} → statement M
 write-twice-spec =
     tie.close
     (tie.spec
-    work-out-requires
-    work-out-requires-2
-    same-length
+    (λ c κs. search needs)
+    (λ c κs. search needs)
+    (λ c. search needs)
     returns
-    same-length-2
+    (λ c. search needs)
     returns-2)

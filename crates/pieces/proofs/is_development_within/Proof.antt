@@ -6,36 +6,6 @@ use Rattle.pieces.specs.Laws.{pairs}
 use Rattle.pieces.proofs.is_development_within.Statement.{statement}
 use Rattle.pieces.proofs.is_development_within.Tie as tie
 
-is-within-requires : tie.Need-is-within-requires
-is-within-requires c κs = search needs
-
-is-within-requires-2 : tie.Need-is-within-requires-2
-is-within-requires-2 c κs = search needs
-
-is-within-requires-3 : tie.Need-is-within-requires-3
-is-within-requires-3 c κs = search needs
-
-is-within-requires-4 : tie.Need-is-within-requires-4
-is-within-requires-4 c κs = search needs
-
-is-within-requires-5 : tie.Need-is-within-requires-5
-is-within-requires-5 c κs = search needs
-
-is-within-requires-6 : tie.Need-is-within-requires-6
-is-within-requires-6 c κs = search needs
-
-is-within-requires-7 : tie.Need-is-within-requires-7
-is-within-requires-7 c κs = search needs
-
-is-within-requires-8 : tie.Need-is-within-requires-8
-is-within-requires-8 c κs = search needs
-
-is-within-requires-9 : tie.Need-is-within-requires-9
-is-within-requires-9 c κs = search needs
-
-is-within-requires-10 : tie.Need-is-within-requires-10
-is-within-requires-10 c κs = search needs
-
 returns : tie.Need-returns
 unfolding developmentWithin within3
 returns c =
@@ -46,14 +16,14 @@ pub is-development-within-spec : {M : Type 1} → statement M
 is-development-within-spec =
     tie.close
     (tie.spec
-    is-within-requires
-    is-within-requires-2
-    is-within-requires-3
-    is-within-requires-4
-    is-within-requires-5
-    is-within-requires-6
-    is-within-requires-7
-    is-within-requires-8
-    is-within-requires-9
-    is-within-requires-10
+    (λ c κs. search needs)
+    (λ c κs. search needs)
+    (λ c κs. search needs)
+    (λ c κs. search needs)
+    (λ c κs. search needs)
+    (λ c κs. search needs)
+    (λ c κs. search needs)
+    (λ c κs. search needs)
+    (λ c κs. search needs)
+    (λ c κs. search needs)
     returns)

@@ -4,9 +4,6 @@ use mathlib.Core.Path.{sym}
 use Rattle.pieces.proofs.settle_box.Statement.{statement}
 use Rattle.pieces.proofs.settle_box.Tie as tie
 
-earlier-requires : tie.Need-earlier-requires
-earlier-requires c κs = search needs
-
 returns : tie.Need-returns
 returns c = simp (← c .before .before .earlier .ensures, c .if1 .taken, settled-none)
 
@@ -17,6 +14,6 @@ pub settle-box-spec : {M : Type 1} → statement M
 settle-box-spec =
     tie.close
     (tie.spec
-    earlier-requires
+    (λ c κs. search needs)
     returns
     returns-2)

@@ -20,15 +20,6 @@ scaled c =
       | inr w ↦ scaled-odd m e n (p .0) (p .1) (w .0 .left) (w .1)
     ]
 
-mul-n : tie.Need-mul-n
-mul-n c = search needs
-
-add-result : tie.Need-add-result
-add-result c = search needs
-
-mul-result : tie.Need-mul-result
-mul-result c = search needs
-
 nearest-root-requires : tie.Need-nearest-root-requires
 nearest-root-requires c κs = (scaled c .from, scaled c .below)
 
@@ -41,4 +32,4 @@ returns : tie.Need-returns
 returns c = (c .nearest-root .result, subst (λ (k : ℕ). NearRoot k (c .nearest-root .result)) (scaled (c .before) .same) (c .nearest-root .ensures), refl)
 
 pub root-bits-spec : {M : Type 1} → statement M
-root-bits-spec = tie.close (tie.spec mul-n add-result mul-result nearest-root-requires add-result-2 returns)
+root-bits-spec = tie.close (tie.spec (λ c. search needs) (λ c. search needs) (λ c. search needs) nearest-root-requires add-result-2 returns)

@@ -4,15 +4,9 @@ use Rattle.checked.specs.Laws.{rules as checked-rules}
 use Rattle.vectors.proofs.tried.Statement.{statement}
 use Rattle.vectors.proofs.tried.Tie as tie
 
-noted-requires : tie.Need-noted-requires
-noted-requires c κs = search needs
-
-settle-requires : tie.Need-settle-requires
-settle-requires c κs = search needs
-
 returns : tie.Need-returns
 unfolding nines
 returns c = simp (c .settle .ensures, c .before .noted .ensures, checked-rules)
 
 pub tried-spec : {M : Type 1} → statement M
-tried-spec = tie.close (tie.spec noted-requires settle-requires returns)
+tried-spec = tie.close (tie.spec (λ c κs. search needs) (λ c κs. search needs) returns)

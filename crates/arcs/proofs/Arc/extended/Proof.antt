@@ -7,27 +7,6 @@ use mathlib.Core.Path.{sym}
 use Rattle.arcs.proofs.Arc.extended.Statement.{statement}
 use Rattle.arcs.proofs.Arc.extended.Tie as tie
 
-ends-within-requires : tie.Need-ends-within-requires
-ends-within-requires c κs = search needs
-
-fails-requires : tie.Need-fails-requires
-fails-requires c κs = search needs
-
-is-free-requires : tie.Need-is-free-requires
-is-free-requires c κs = search needs
-
-fails-requires-2 : tie.Need-fails-requires-2
-fails-requires-2 c κs = search needs
-
-earlier-requires : tie.Need-earlier-requires
-earlier-requires c κs = search needs
-
-extended-requires : tie.Need-extended-requires
-extended-requires c κs = search needs
-
-settle-requires : tie.Need-settle-requires
-settle-requires c κs = search needs
-
 returns : tie.Need-returns
 unfolding extendDue
 returns c = simp (c .settle .ensures, c .before .extended .ensures .0, c .before .extended .ensures .1, c .before .before .if1 .taken, passing-none, ← c .before .before .before .earlier .ensures, ← c .before .before .before .before .fails2 .ensures, ← c .before .before .before .before .before .is-free .ensures, ← c .before .before .before .before .before .before .fails .ensures, ← c .before .before .before .before .before .before .before .ends-within .ensures, call-is, checked-rules)
@@ -40,12 +19,12 @@ pub extended-spec : {M : Type 1} → statement M
 extended-spec =
     tie.close
     (tie.spec
-    ends-within-requires
-    fails-requires
-    is-free-requires
-    fails-requires-2
-    earlier-requires
-    extended-requires
-    settle-requires
+    (λ c κs. search needs)
+    (λ c κs. search needs)
+    (λ c κs. search needs)
+    (λ c κs. search needs)
+    (λ c κs. search needs)
+    (λ c κs. search needs)
+    (λ c κs. search needs)
     returns
     returns-2)

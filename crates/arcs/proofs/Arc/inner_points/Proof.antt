@@ -9,15 +9,6 @@ use borrow.Author.Needs.{needs}
 use Rattle.arcs.proofs.Arc.inner_points.Statement.{statement}
 use Rattle.arcs.proofs.Arc.inner_points.Tie as tie
 
-write-inner-points-requires : tie.Need-write-inner-points-requires
-write-inner-points-requires c κs = search needs
-
-cast-n : tie.Need-cast-n
-cast-n c = search needs
-
-mul-n : tie.Need-mul-n
-mul-n c = search needs
-
 slice-aggregate-result : tie.Need-slice-aggregate-result
 slice-aggregate-result c =
     let start = c .before .before .before .before .before .before .before .args in
@@ -35,4 +26,4 @@ returns c =
 
 pub inner-points-spec : {M : Type 1} → statement M
 inner-points-spec =
-    tie.close (tie.spec write-inner-points-requires cast-n mul-n slice-aggregate-result returns)
+    tie.close (tie.spec (λ c κs. search needs) (λ c. search needs) (λ c. search needs) slice-aggregate-result returns)

@@ -5,18 +5,6 @@ use mathlib.Core.Path.{sym}
 use Rattle.arcs.proofs.Arc.reversed.Statement.{statement}
 use Rattle.arcs.proofs.Arc.reversed.Tie as tie
 
-circle-within-requires : tie.Need-circle-within-requires
-circle-within-requires c κs = search needs
-
-fails-requires : tie.Need-fails-requires
-fails-requires c κs = search needs
-
-reversed-requires : tie.Need-reversed-requires
-reversed-requires c κs = search needs
-
-settle-requires : tie.Need-settle-requires
-settle-requires c κs = search needs
-
 returns : tie.Need-returns
 unfolding reversedDue
 returns c = simp (c .settle .ensures, c .before .reversed .ensures .0, c .before .reversed .ensures .1, c .before .before .if1 .taken, passing-none, ← c .before .before .before .fails .ensures, ← c .before .before .before .before .circle-within .ensures)
@@ -27,4 +15,4 @@ returns-2 c = simp (← c .before .fails .ensures, ← c .before .before .circle
 
 pub reversed-spec : {M : Type 1} → statement M
 reversed-spec =
-    tie.close (tie.spec circle-within-requires fails-requires reversed-requires settle-requires returns returns-2)
+    tie.close (tie.spec (λ c κs. search needs) (λ c κs. search needs) (λ c κs. search needs) (λ c κs. search needs) returns returns-2)

@@ -5,18 +5,6 @@ use mathlib.Core.Path.{sym}
 use Rattle.arcs.proofs.Arc.sweep.Statement.{statement}
 use Rattle.arcs.proofs.Arc.sweep.Tie as tie
 
-ends-within-requires : tie.Need-ends-within-requires
-ends-within-requires c κs = search needs
-
-fails-requires : tie.Need-fails-requires
-fails-requires c κs = search needs
-
-sweep-requires : tie.Need-sweep-requires
-sweep-requires c κs = search needs
-
-settle-requires : tie.Need-settle-requires
-settle-requires c κs = search needs
-
 returns : tie.Need-returns
 unfolding sweepDue
 returns c = simp (c .settle .ensures, c .before .sweep .ensures .0, c .before .sweep .ensures .1, c .before .before .if1 .taken, passing-none, ← c .before .before .before .fails .ensures, ← c .before .before .before .before .ends-within .ensures)
@@ -27,4 +15,4 @@ returns-2 c = simp (← c .before .fails .ensures, ← c .before .before .ends-w
 
 pub sweep-spec : {M : Type 1} → statement M
 sweep-spec =
-    tie.close (tie.spec ends-within-requires fails-requires sweep-requires settle-requires returns returns-2)
+    tie.close (tie.spec (λ c κs. search needs) (λ c κs. search needs) (λ c κs. search needs) (λ c κs. search needs) returns returns-2)

@@ -10,27 +10,6 @@ use Rattle.arcs.specs.Entries.{innerPointsDue}
 use Rattle.arcs.proofs.Arc.write_inner_points.Statement.{statement}
 use Rattle.arcs.proofs.Arc.write_inner_points.Tie as tie
 
-chord-within-requires : tie.Need-chord-within-requires
-chord-within-requires c κs = search needs
-
-fails-requires : tie.Need-fails-requires
-fails-requires c κs = search needs
-
-tried-chord-requires : tie.Need-tried-chord-requires
-tried-chord-requires c κs = search needs
-
-earlier-requires : tie.Need-earlier-requires
-earlier-requires c κs = search needs
-
-cut-up-requires : tie.Need-cut-up-requires
-cut-up-requires c κs = search needs
-
-write-points-requires : tie.Need-write-points-requires
-write-points-requires c κs = search needs
-
-same-length : tie.Need-same-length
-same-length c = search needs
-
 returns : tie.Need-returns
 unfolding innerPointsDue
 returns c =
@@ -58,13 +37,13 @@ pub write-inner-points-spec : {M : Type 1} → statement M
 write-inner-points-spec =
     tie.close
     (tie.spec
-    chord-within-requires
-    fails-requires
-    tried-chord-requires
-    earlier-requires
-    cut-up-requires
-    write-points-requires
-    same-length
+    (λ c κs. search needs)
+    (λ c κs. search needs)
+    (λ c κs. search needs)
+    (λ c κs. search needs)
+    (λ c κs. search needs)
+    (λ c κs. search needs)
+    (λ c. search needs)
     returns
     returns-2
     returns-3)

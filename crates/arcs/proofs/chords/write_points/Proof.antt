@@ -9,21 +9,6 @@ use Rattle.arcs.specs.ChordsLaws.{inners-are}
 use Rattle.arcs.proofs.chords.write_points.Statement.{statement}
 use Rattle.arcs.proofs.chords.write_points.Tie as tie
 
-radius-vector-requires : tie.Need-radius-vector-requires
-radius-vector-requires c κs = search needs
-
-cross-requires : tie.Need-cross-requires
-cross-requires c κs = search needs
-
-less-one-requires : tie.Need-less-one-requires
-less-one-requires c κs = search needs
-
-write-requires : tie.Need-write-requires
-write-requires c κs = search needs
-
-same-length : tie.Need-same-length
-same-length c = search needs
-
 returns : tie.Need-returns
 returns c =
     let start = c .before .before .before .before .before .before .before .before .before .before .args in
@@ -37,9 +22,6 @@ returns c =
       part = simp (is, m) (sym (part-length point _ _ _ _ (sym (simp (m, q, d .0, d .1) at (w .0)) ∙ c .if1 .taken)));
       rest = simp (is, w .1, m, q, d .0, d .1);
     }
-
-same-length-2 : tie.Need-same-length-2
-same-length-2 c = search needs
 
 returns-2 : tie.Need-returns-2
 returns-2 c =
@@ -60,11 +42,11 @@ pub write-points-spec : {M : Type 1} → statement M
 write-points-spec =
     tie.close
     (tie.spec
-    radius-vector-requires
-    cross-requires
-    less-one-requires
-    write-requires
-    same-length
+    (λ c κs. search needs)
+    (λ c κs. search needs)
+    (λ c κs. search needs)
+    (λ c κs. search needs)
+    (λ c. search needs)
     returns
-    same-length-2
+    (λ c. search needs)
     returns-2)

@@ -5,30 +5,6 @@ use Rattle.arcs.specs.ExtremesLaws.{points-refusal, points-value}
 use Rattle.arcs.proofs.extremes.extended.Statement.{statement}
 use Rattle.arcs.proofs.extremes.extended.Tie as tie
 
-minus-requires : tie.Need-minus-requires
-minus-requires c κs = search needs
-
-sweep-from-requires : tie.Need-sweep-from-requires
-sweep-from-requires c κs = search needs
-
-widened-requires : tie.Need-widened-requires
-widened-requires c κs = search needs
-
-widened-requires-2 : tie.Need-widened-requires-2
-widened-requires-2 c κs = search needs
-
-earlier-requires : tie.Need-earlier-requires
-earlier-requires c κs = search needs
-
-with-extremes-requires : tie.Need-with-extremes-requires
-with-extremes-requires c κs = search needs
-
-with-extremes-requires-2 : tie.Need-with-extremes-requires-2
-with-extremes-requires-2 c κs = search needs
-
-with-extremes-requires-3 : tie.Need-with-extremes-requires-3
-with-extremes-requires-3 c κs = search needs
-
 returns : tie.Need-returns
 returns c =
     let z = c .with-extremes3 .ensures in
@@ -45,12 +21,12 @@ pub extended-spec : {M : Type 1} → statement M
 extended-spec =
     tie.close
     (tie.spec
-    minus-requires
-    sweep-from-requires
-    widened-requires
-    widened-requires-2
-    earlier-requires
-    with-extremes-requires
-    with-extremes-requires-2
-    with-extremes-requires-3
+    (λ c κs. search needs)
+    (λ c κs. search needs)
+    (λ c κs. search needs)
+    (λ c κs. search needs)
+    (λ c κs. search needs)
+    (λ c κs. search needs)
+    (λ c κs. search needs)
+    (λ c κs. search needs)
     returns)

@@ -6,18 +6,6 @@ use Rattle.arcs.specs.ExtremesLaws.{taken-refusal, both-refusal}
 use Rattle.arcs.proofs.extremes.with_both.Statement.{statement}
 use Rattle.arcs.proofs.extremes.with_both.Tie as tie
 
-side-requires : tie.Need-side-requires
-side-requires c κs = search needs
-
-side-requires-2 : tie.Need-side-requires-2
-side-requires-2 c κs = search needs
-
-with-candidate-requires : tie.Need-with-candidate-requires
-with-candidate-requires c κs = search needs
-
-with-candidate-requires-2 : tie.Need-with-candidate-requires-2
-with-candidate-requires-2 c κs = search needs
-
 returns : tie.Need-returns
 returns c =
     let p = c .before .before .before .side .ensures in
@@ -30,8 +18,8 @@ pub with-both-spec : {M : Type 1} → statement M
 with-both-spec =
     tie.close
     (tie.spec
-    side-requires
-    side-requires-2
-    with-candidate-requires
-    with-candidate-requires-2
+    (λ c κs. search needs)
+    (λ c κs. search needs)
+    (λ c κs. search needs)
+    (λ c κs. search needs)
     returns)

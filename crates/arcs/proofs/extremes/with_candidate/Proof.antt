@@ -4,15 +4,6 @@ use Rattle.checked.specs.Laws.{first-zero}
 use Rattle.arcs.proofs.extremes.with_candidate.Statement.{statement}
 use Rattle.arcs.proofs.extremes.with_candidate.Tie as tie
 
-sweep-from-requires : tie.Need-sweep-from-requires
-sweep-from-requires c κs = search needs
-
-widened-where-requires : tie.Need-widened-where-requires
-widened-where-requires c κs = search needs
-
-earlier-requires : tie.Need-earlier-requires
-earlier-requires c κs = search needs
-
 returns : tie.Need-returns
 unfolding takenC
 returns c =
@@ -21,4 +12,4 @@ returns c =
 
 pub with-candidate-spec : {M : Type 1} → statement M
 with-candidate-spec =
-    tie.close (tie.spec sweep-from-requires widened-where-requires earlier-requires returns)
+    tie.close (tie.spec (λ c κs. search needs) (λ c κs. search needs) (λ c κs. search needs) returns)

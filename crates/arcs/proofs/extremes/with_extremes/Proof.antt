@@ -6,21 +6,6 @@ use Rattle.arcs.specs.ExtremesLaws.{extremes-refusal}
 use Rattle.arcs.proofs.extremes.with_extremes.Statement.{statement}
 use Rattle.arcs.proofs.extremes.with_extremes.Tie as tie
 
-across-requires : tie.Need-across-requires
-across-requires c κs = search needs
-
-across-requires-2 : tie.Need-across-requires-2
-across-requires-2 c κs = search needs
-
-length-requires : tie.Need-length-requires
-length-requires c κs = search needs
-
-note-requires : tie.Need-note-requires
-note-requires c κs = search needs
-
-with-both-requires : tie.Need-with-both-requires
-with-both-requires c κs = search needs
-
 returns : tie.Need-returns
 returns c =
     let both = c .with-both .ensures in
@@ -42,10 +27,10 @@ pub with-extremes-spec : {M : Type 1} → statement M
 with-extremes-spec =
     tie.close
     (tie.spec
-    across-requires
-    across-requires-2
-    length-requires
-    note-requires
-    with-both-requires
+    (λ c κs. search needs)
+    (λ c κs. search needs)
+    (λ c κs. search needs)
+    (λ c κs. search needs)
+    (λ c κs. search needs)
     returns
     returns-2)

@@ -5,15 +5,9 @@ use Rattle.vectors.specs.Laws.{rules as vectors-rules}
 use Rattle.arcs.proofs.formula.reversed.Statement.{statement}
 use Rattle.arcs.proofs.formula.reversed.Tie as tie
 
-neg-requires : tie.Need-neg-requires
-neg-requires c κs = search needs
-
-noted-requires : tie.Need-noted-requires
-noted-requires c κs = search needs
-
 returns : tie.Need-returns
 unfolding reversedC
 returns c = (simp (c .noted .ensures, c .before .neg .ensures, checked-rules, vectors-rules), simp (c .before .neg .ensures))
 
 pub reversed-spec : {M : Type 1} → statement M
-reversed-spec = tie.close (tie.spec neg-requires noted-requires returns)
+reversed-spec = tie.close (tie.spec (λ c κs. search needs) (λ c κs. search needs) returns)

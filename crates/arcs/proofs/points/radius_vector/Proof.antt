@@ -6,24 +6,6 @@ use mathlib.Core.Path.{sym, _∙_}
 use Rattle.arcs.proofs.points.radius_vector.Statement.{statement}
 use Rattle.arcs.proofs.points.radius_vector.Tie as tie
 
-minus-requires : tie.Need-minus-requires
-minus-requires c κs = search needs
-
-across-requires : tie.Need-across-requires
-across-requires c κs = search needs
-
-length-requires : tie.Need-length-requires
-length-requires c κs = search needs
-
-times-requires : tie.Need-times-requires
-times-requires c κs = search needs
-
-note-requires : tie.Need-note-requires
-note-requires c κs = search needs
-
-noted-requires : tie.Need-noted-requires
-noted-requires c κs = search needs
-
 returns : tie.Need-returns
 unfolding radiusVectorC
 returns c = ((simp (c .noted .ensures, c .before .note .ensures, c .before .before .times .ensures, c .before .before .before .length .ensures, c .before .before .before .before .across .ensures, c .before .before .before .before .before .minus .ensures, zero-first)) ∙ sym (spoke-refusal (c .before .before .before .before .before .before .args .center) (c .before .before .before .before .before .before .args .axis) (c .before .before .before .before .before .before .args .radius) (c .before .before .before .before .before .before .args .from)), simp (c .before .before .times .ensures, c .before .before .before .length .ensures, c .before .before .before .before .across .ensures, c .before .before .before .before .before .minus .ensures))
@@ -32,10 +14,10 @@ pub radius-vector-spec : {M : Type 1} → statement M
 radius-vector-spec =
     tie.close
     (tie.spec
-    minus-requires
-    across-requires
-    length-requires
-    times-requires
-    note-requires
-    noted-requires
+    (λ c κs. search needs)
+    (λ c κs. search needs)
+    (λ c κs. search needs)
+    (λ c κs. search needs)
+    (λ c κs. search needs)
+    (λ c κs. search needs)
     returns)

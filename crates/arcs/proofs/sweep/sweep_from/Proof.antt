@@ -6,27 +6,6 @@ use mathlib.Core.Path.{sym, _∙_}
 use Rattle.arcs.proofs.sweep.sweep_from.Statement.{statement}
 use Rattle.arcs.proofs.sweep.sweep_from.Tie as tie
 
-minus-requires : tie.Need-minus-requires
-minus-requires c κs = search needs
-
-cross-requires : tie.Need-cross-requires
-cross-requires c κs = search needs
-
-dot-requires : tie.Need-dot-requires
-dot-requires c κs = search needs
-
-dot-requires-2 : tie.Need-dot-requires-2
-dot-requires-2 c κs = search needs
-
-angle-requires : tie.Need-angle-requires
-angle-requires c κs = search needs
-
-ahead-requires : tie.Need-ahead-requires
-ahead-requires c κs = search needs
-
-note-requires : tie.Need-note-requires
-note-requires c κs = search needs
-
 returns : tie.Need-returns
 unfolding sweepFromC
 returns c = ((simp (c .note .ensures, c .before .ahead .ensures, c .before .before .angle .ensures .0, c .before .before .angle .ensures .1, c .before .before .before .dot2 .ensures, c .before .before .before .before .dot .ensures, c .before .before .before .before .before .cross .ensures, c .before .before .before .before .before .before .minus .ensures, first-assoc)) ∙ sym (sweepFrom-refusal (c .before .before .before .before .before .before .before .args .center) (c .before .before .before .before .before .before .before .args .axis) (c .before .before .before .before .before .before .before .args .u) (c .before .before .before .before .before .before .before .args .p)), simp (c .before .ahead .ensures, c .before .before .angle .ensures .1, c .before .before .before .dot2 .ensures, c .before .before .before .before .dot .ensures, c .before .before .before .before .before .cross .ensures, c .before .before .before .before .before .before .minus .ensures))
@@ -35,11 +14,11 @@ pub sweep-from-spec : {M : Type 1} → statement M
 sweep-from-spec =
     tie.close
     (tie.spec
-    minus-requires
-    cross-requires
-    dot-requires
-    dot-requires-2
-    angle-requires
-    ahead-requires
-    note-requires
+    (λ c κs. search needs)
+    (λ c κs. search needs)
+    (λ c κs. search needs)
+    (λ c κs. search needs)
+    (λ c κs. search needs)
+    (λ c κs. search needs)
+    (λ c κs. search needs)
     returns)

@@ -3,18 +3,6 @@ use borrow.Author.Needs.{needs}
 use Rattle.c_arrays.proofs.arc_records.store_arc.Statement.{statement}
 use Rattle.c_arrays.proofs.arc_records.store_arc.Tie as tie
 
-enum-known-a : tie.Need-enum-known-a
-enum-known-a c = search needs
-
-put-arc-requires : tie.Need-put-arc-requires
-put-arc-requires c κs = search needs
-
-enum-known-a-2 : tie.Need-enum-known-a-2
-enum-known-a-2 c = search needs
-
-cast-result : tie.Need-cast-result
-cast-result c = search needs
-
 returns : tie.Need-returns
 unfolding after
 returns c = (simp (c .before .before .before .a .given .1), simp (c .put-arc .ensures, c .before .before .before .a .given .1))
@@ -24,4 +12,4 @@ unfolding after
 returns-2 c = (simp (c .before .a2 .given .1), simp (c .before .a2 .given .1))
 
 pub store-arc-spec : {M : Type 1} → statement M
-store-arc-spec = tie.close (tie.spec enum-known-a put-arc-requires enum-known-a-2 cast-result returns returns-2)
+store-arc-spec = tie.close (tie.spec (λ c. search needs) (λ c κs. search needs) (λ c. search needs) (λ c. search needs) returns returns-2)

@@ -5,9 +5,6 @@ use borrow.Author.Needs.{needs}
 use Rattle.c_arrays.proofs.development_records.put_development.Statement.{statement}
 use Rattle.c_arrays.proofs.development_records.put_development.Tie as tie
 
-slice-write-out : tie.Need-slice-write-out
-slice-write-out c = search needs
-
 slice-write-out-2 : tie.Need-slice-write-out-2
 slice-write-out-2 c = simp length-set (omega arith)
 
@@ -35,9 +32,6 @@ slice-write-out-9 c = simp length-set (omega arith)
 slice-write-out-10 : tie.Need-slice-write-out-10
 slice-write-out-10 c = simp length-set (omega arith)
 
-same-length : tie.Need-same-length
-same-length c = search needs
-
 returns : tie.Need-returns
 unfolding over
 returns c = search needs
@@ -46,7 +40,7 @@ pub put-development-spec : {M : Type 1} → statement M
 put-development-spec =
     tie.close
     (tie.spec
-    slice-write-out
+    (λ c. search needs)
     slice-write-out-2
     slice-write-out-3
     slice-write-out-4
@@ -56,5 +50,5 @@ put-development-spec =
     slice-write-out-8
     slice-write-out-9
     slice-write-out-10
-    same-length
+    (λ c. search needs)
     returns)

@@ -4,21 +4,6 @@ use Rattle.c_arrays.specs.TraceRecords.{someDue}
 use Rattle.c_arrays.proofs.trace_records.store_height.Statement.{statement}
 use Rattle.c_arrays.proofs.trace_records.store_height.Tie as tie
 
-enum-known-h : tie.Need-enum-known-h
-enum-known-h c = search needs
-
-element-write-out : tie.Need-element-write-out
-element-write-out c = search needs
-
-enum-told : tie.Need-enum-told
-enum-told c = search needs
-
-enum-known-h-2 : tie.Need-enum-known-h-2
-enum-known-h-2 c = search needs
-
-cast-result : tie.Need-cast-result
-cast-result c = search needs
-
 returns : tie.Need-returns
 unfolding after over someDue
 returns c = (simp (c .before .h .given .1), simp (c .before .h .given .1))
@@ -35,11 +20,11 @@ pub store-height-spec : {M : Type 1} → statement M
 store-height-spec =
     tie.close
     (tie.spec
-    enum-known-h
-    element-write-out
-    enum-told
-    enum-known-h-2
-    cast-result
+    (λ c. search needs)
+    (λ c. search needs)
+    (λ c. search needs)
+    (λ c. search needs)
+    (λ c. search needs)
     returns
     returns-2
     returns-3)

@@ -3,15 +3,6 @@ use borrow.Author.Needs.{needs}
 use Rattle.c_arrays.proofs.trace_records.trace_at.Statement.{statement}
 use Rattle.c_arrays.proofs.trace_records.trace_at.Tie as tie
 
-wave-at-requires : tie.Need-wave-at-requires
-wave-at-requires c κs = search needs
-
-meet-at-requires : tie.Need-meet-at-requires
-meet-at-requires c κs = search needs
-
-meet-at-requires-2 : tie.Need-meet-at-requires-2
-meet-at-requires-2 c κs = search needs
-
 returns : tie.Need-returns
 returns c = simp (c .wave-at .ensures, eq-eqb _ _ (c .before .if1 .taken))
 
@@ -24,4 +15,4 @@ returns-3 c = simp (c .meet-at2 .ensures, ne-eqb _ _ (c .before .if2 .left), ne-
 pub trace-at-spec : {M : Type 1} → statement M
 trace-at-spec =
     tie.close
-    (tie.spec wave-at-requires meet-at-requires meet-at-requires-2 returns returns-2 returns-3)
+    (tie.spec (λ c κs. search needs) (λ c κs. search needs) (λ c κs. search needs) returns returns-2 returns-3)

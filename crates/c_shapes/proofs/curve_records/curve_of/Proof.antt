@@ -3,15 +3,6 @@ use borrow.Author.Needs.{needs}
 use Rattle.c_shapes.proofs.curve_records.curve_of.Statement.{statement}
 use Rattle.c_shapes.proofs.curve_records.curve_of.Tie as tie
 
-arc-at-requires : tie.Need-arc-at-requires
-arc-at-requires c κs = search needs
-
-piece-at-requires : tie.Need-piece-at-requires
-piece-at-requires c κs = search needs
-
-element-copy-out-t15 : tie.Need-element-copy-out-t15
-element-copy-out-t15 c = search needs
-
 returns : tie.Need-returns
 returns c = simp (c .arc-at .ensures, eq-eqb _ _ (c .before .before .if1 .taken))
 
@@ -19,4 +10,4 @@ returns-2 : tie.Need-returns-2
 returns-2 c = simp (c .before .piece-at .ensures, ne-eqb _ _ (c .before .before .before .if1 .left))
 
 pub curve-of-spec : {M : Type 1} → statement M
-curve-of-spec = tie.close (tie.spec arc-at-requires piece-at-requires element-copy-out-t15 returns returns-2)
+curve-of-spec = tie.close (tie.spec (λ c κs. search needs) (λ c κs. search needs) (λ c. search needs) returns returns-2)

@@ -3,12 +3,9 @@ use borrow.Author.Needs.{needs}
 use Rattle.c_shapes.proofs.curve_records.is_curve.Statement.{statement}
 use Rattle.c_shapes.proofs.curve_records.is_curve.Tie as tie
 
-is-piece-requires : tie.Need-is-piece-requires
-is-piece-requires c κs = search needs
-
 returns : tie.Need-returns
 unfolding isCurve
 returns c = simp (c .is-piece .ensures)
 
 pub is-curve-spec : {M : Type 1} → statement M
-is-curve-spec = tie.close (tie.spec is-piece-requires returns)
+is-curve-spec = tie.close (tie.spec (λ c κs. search needs) returns)

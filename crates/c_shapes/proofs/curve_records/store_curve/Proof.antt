@@ -4,21 +4,6 @@ use borrow.Author.Needs.{needs}
 use Rattle.c_shapes.proofs.curve_records.store_curve.Statement.{statement}
 use Rattle.c_shapes.proofs.curve_records.store_curve.Tie as tie
 
-enum-known-a : tie.Need-enum-known-a
-enum-known-a c = search needs
-
-put-curve-requires : tie.Need-put-curve-requires
-put-curve-requires c κs = search needs
-
-put-tags-requires : tie.Need-put-tags-requires
-put-tags-requires c κs = search needs
-
-enum-known-a-2 : tie.Need-enum-known-a-2
-enum-known-a-2 c = search needs
-
-cast-result : tie.Need-cast-result
-cast-result c = search needs
-
 returns : tie.Need-returns
 unfolding stored after
 returns c = (simp (c .before .before .before .before .before .a .given .1), (simp (c .before .before .put-curve .ensures, c .before .before .before .before .before .a .given .1), simp (c .put-tags .ensures, c .before .before .before .before .before .a .given .1)))
@@ -28,4 +13,4 @@ unfolding stored after
 returns-2 c = (simp (c .before .a2 .given .1), (simp (c .before .a2 .given .1), simp (c .before .a2 .given .1)))
 
 pub store-curve-spec : {M : Type 1} → statement M
-store-curve-spec = tie.close (tie.spec enum-known-a put-curve-requires put-tags-requires enum-known-a-2 cast-result returns returns-2)
+store-curve-spec = tie.close (tie.spec (λ c. search needs) (λ c κs. search needs) (λ c κs. search needs) (λ c. search needs) (λ c. search needs) returns returns-2)

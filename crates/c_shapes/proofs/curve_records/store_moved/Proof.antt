@@ -3,18 +3,6 @@ use borrow.Author.Needs.{needs}
 use Rattle.c_shapes.proofs.curve_records.store_moved.Statement.{statement}
 use Rattle.c_shapes.proofs.curve_records.store_moved.Tie as tie
 
-enum-known-a : tie.Need-enum-known-a
-enum-known-a c = search needs
-
-put-curve-requires : tie.Need-put-curve-requires
-put-curve-requires c κs = search needs
-
-enum-known-a-2 : tie.Need-enum-known-a-2
-enum-known-a-2 c = search needs
-
-cast-result : tie.Need-cast-result
-cast-result c = search needs
-
 returns : tie.Need-returns
 unfolding stored
 returns c = (simp (c .before .before .before .a .given .1), simp (c .put-curve .ensures, c .before .before .before .a .given .1))
@@ -24,4 +12,4 @@ unfolding stored
 returns-2 c = (simp (c .before .a2 .given .1), simp (c .before .a2 .given .1))
 
 pub store-moved-spec : {M : Type 1} → statement M
-store-moved-spec = tie.close (tie.spec enum-known-a put-curve-requires enum-known-a-2 cast-result returns returns-2)
+store-moved-spec = tie.close (tie.spec (λ c. search needs) (λ c κs. search needs) (λ c. search needs) (λ c. search needs) returns returns-2)

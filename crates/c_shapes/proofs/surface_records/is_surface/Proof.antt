@@ -3,12 +3,9 @@ use borrow.Author.Needs.{needs}
 use Rattle.c_shapes.proofs.surface_records.is_surface.Statement.{statement}
 use Rattle.c_shapes.proofs.surface_records.is_surface.Tie as tie
 
-is-piece-requires : tie.Need-is-piece-requires
-is-piece-requires c κs = search needs
-
 returns : tie.Need-returns
 unfolding isSurface
 returns c = simp (c .is-piece .ensures)
 
 pub is-surface-spec : {M : Type 1} → statement M
-is-surface-spec = tie.close (tie.spec is-piece-requires returns)
+is-surface-spec = tie.close (tie.spec (λ c κs. search needs) returns)

@@ -3,30 +3,6 @@ use borrow.Author.Needs.{needs}
 use Rattle.c_shapes.proofs.surface_records.put_surface.Statement.{statement}
 use Rattle.c_shapes.proofs.surface_records.put_surface.Tie as tie
 
-enum-known-s : tie.Need-enum-known-s
-enum-known-s c = search needs
-
-put-plane-requires : tie.Need-put-plane-requires
-put-plane-requires c κs = search needs
-
-enum-known-s-2 : tie.Need-enum-known-s-2
-enum-known-s-2 c = search needs
-
-put-cylinder-requires : tie.Need-put-cylinder-requires
-put-cylinder-requires c κs = search needs
-
-enum-known-s-3 : tie.Need-enum-known-s-3
-enum-known-s-3 c = search needs
-
-put-cone-requires : tie.Need-put-cone-requires
-put-cone-requires c κs = search needs
-
-enum-known-s-4 : tie.Need-enum-known-s-4
-enum-known-s-4 c = search needs
-
-put-piece-requires : tie.Need-put-piece-requires
-put-piece-requires c κs = search needs
-
 returns : tie.Need-returns
 unfolding withSurface
 returns c = simp (c .put-plane .ensures, c .before .before .before .s .given .1)
@@ -44,4 +20,4 @@ unfolding withSurface
 returns-4 c = simp (c .put-piece .ensures, c .before .before .before .s4 .given .1)
 
 pub put-surface-spec : {M : Type 1} → statement M
-put-surface-spec = tie.close (tie.spec enum-known-s put-plane-requires enum-known-s-2 put-cylinder-requires enum-known-s-3 put-cone-requires enum-known-s-4 put-piece-requires returns returns-2 returns-3 returns-4)
+put-surface-spec = tie.close (tie.spec (λ c. search needs) (λ c κs. search needs) (λ c. search needs) (λ c κs. search needs) (λ c. search needs) (λ c κs. search needs) (λ c. search needs) (λ c κs. search needs) returns returns-2 returns-3 returns-4)

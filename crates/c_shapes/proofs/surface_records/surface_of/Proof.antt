@@ -3,18 +3,6 @@ use borrow.Author.Needs.{needs}
 use Rattle.c_shapes.proofs.surface_records.surface_of.Statement.{statement}
 use Rattle.c_shapes.proofs.surface_records.surface_of.Tie as tie
 
-plane-of-requires : tie.Need-plane-of-requires
-plane-of-requires c κs = search needs
-
-cylinder-of-requires : tie.Need-cylinder-of-requires
-cylinder-of-requires c κs = search needs
-
-cone-at-requires : tie.Need-cone-at-requires
-cone-at-requires c κs = search needs
-
-piece-of-requires : tie.Need-piece-of-requires
-piece-of-requires c κs = search needs
-
 returns : tie.Need-returns
 returns c = simp (c .plane-of .ensures, eq-eqb _ _ (c .before .if1 .taken))
 
@@ -28,4 +16,4 @@ returns-4 : tie.Need-returns-4
 returns-4 c = simp (c .piece-of .ensures, ne-eqb _ _ (c .before .if3 .left), ne-eqb _ _ (c .before .before .if2 .left), ne-eqb _ _ (c .before .before .before .if1 .left))
 
 pub surface-of-spec : {M : Type 1} → statement M
-surface-of-spec = tie.close (tie.spec plane-of-requires cylinder-of-requires cone-at-requires piece-of-requires returns returns-2 returns-3 returns-4)
+surface-of-spec = tie.close (tie.spec (λ c κs. search needs) (λ c κs. search needs) (λ c κs. search needs) (λ c κs. search needs) returns returns-2 returns-3 returns-4)

@@ -4,21 +4,6 @@ use Rattle.checked.specs.Laws.{rules as checked-rules}
 use Rattle.chord_counts.proofs.counts.count.Statement.{statement}
 use Rattle.chord_counts.proofs.counts.count.Tie as tie
 
-ceil-requires : tie.Need-ceil-requires
-ceil-requires c κs = search needs
-
-greatest-requires : tie.Need-greatest-requires
-greatest-requires c κs = search needs
-
-limited-requires : tie.Need-limited-requires
-limited-requires c κs = search needs
-
-note-requires : tie.Need-note-requires
-note-requires c κs = search needs
-
-earlier-requires : tie.Need-earlier-requires
-earlier-requires c κs = search needs
-
 returns : tie.Need-returns
 unfolding countC
 returns c = (simp (c .earlier .ensures, c .before .note .ensures, c .before .before .limited .ensures .0, c .before .before .before .greatest .ensures, c .before .before .before .before .ceil .ensures, checked-rules), simp (c .before .before .limited .ensures .1, c .before .before .before .greatest .ensures, c .before .before .before .before .ceil .ensures))
@@ -27,9 +12,9 @@ pub count-spec : {M : Type 1} → statement M
 count-spec =
     tie.close
     (tie.spec
-    ceil-requires
-    greatest-requires
-    limited-requires
-    note-requires
-    earlier-requires
+    (λ c κs. search needs)
+    (λ c κs. search needs)
+    (λ c κs. search needs)
+    (λ c κs. search needs)
+    (λ c κs. search needs)
     returns)

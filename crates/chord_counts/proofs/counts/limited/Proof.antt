@@ -7,9 +7,6 @@ use Rattle.chord_counts.specs.Counts.{limitedC}
 use Rattle.chord_counts.proofs.counts.limited.Statement.{statement}
 use Rattle.chord_counts.proofs.counts.limited.Tie as tie
 
-int-to-float-if1 : tie.Need-int-to-float-if1
-int-to-float-if1 c = search needs
-
 truncating-f64-to-u64-requires : tie.Need-truncating-f64-to-u64-requires
 unfolding ofBits neg
 truncating-f64-to-u64-requires c κs = (yes (c .if2 .taken), fits-u64 _ _ (omega arith) (yes (c .before .if1 .taken)))
@@ -31,4 +28,4 @@ returns-3 c = (simp (c .if1 .left), simp (c .if1 .left))
 
 pub limited-spec : {M : Type 1} → statement M
 limited-spec =
-    tie.close (tie.spec int-to-float-if1 truncating-f64-to-u64-requires cast-t10 returns returns-2 returns-3)
+    tie.close (tie.spec (λ c. search needs) truncating-f64-to-u64-requires cast-t10 returns returns-2 returns-3)

@@ -5,9 +5,6 @@ use Rattle.vectors.specs.Laws.{rules as vectors-rules}
 use Rattle.chord_counts.proofs.formula.chords.Statement.{statement}
 use Rattle.chord_counts.proofs.formula.chords.Tie as tie
 
-quotient-requires : tie.Need-quotient-requires
-quotient-requires c κs = search needs
-
 returns : tie.Need-returns
 unfolding chordsC
 returns c = (simp (c .quotient .ensures .0, c .quotient .ensures .1, c .before .if1 .taken, checked-rules, vectors-rules), simp (c .quotient .ensures .1, c .before .if1 .taken))
@@ -17,4 +14,4 @@ unfolding chordsC
 returns-2 c = (simp (c .if1 .left, checked-rules, vectors-rules), simp (c .if1 .left))
 
 pub chords-spec : {M : Type 1} → statement M
-chords-spec = tie.close (tie.spec quotient-requires returns returns-2)
+chords-spec = tie.close (tie.spec (λ c κs. search needs) returns returns-2)

@@ -5,18 +5,9 @@ use Rattle.vectors.specs.Laws.{rules as vectors-rules}
 use Rattle.chord_counts.proofs.formula.per_turn.Statement.{statement}
 use Rattle.chord_counts.proofs.formula.per_turn.Tie as tie
 
-chords-requires : tie.Need-chords-requires
-chords-requires c κs = search needs
-
-ceil-requires : tie.Need-ceil-requires
-ceil-requires c κs = search needs
-
-clamp-requires : tie.Need-clamp-requires
-clamp-requires c κs = search needs
-
 returns : tie.Need-returns
 unfolding perTurnC
 returns c = (simp (c .clamp .ensures, c .before .ceil .ensures, c .before .before .chords .ensures .0, c .before .before .chords .ensures .1, checked-rules, vectors-rules), simp (c .clamp .ensures, c .before .ceil .ensures, c .before .before .chords .ensures .1))
 
 pub per-turn-spec : {M : Type 1} → statement M
-per-turn-spec = tie.close (tie.spec chords-requires ceil-requires clamp-requires returns)
+per-turn-spec = tie.close (tie.spec (λ c κs. search needs) (λ c κs. search needs) (λ c κs. search needs) returns)

@@ -5,18 +5,9 @@ use Rattle.vectors.specs.Laws.{rules as vectors-rules}
 use Rattle.chord_counts.proofs.formula.quotient.Statement.{statement}
 use Rattle.chord_counts.proofs.formula.quotient.Tie as tie
 
-acos-requires : tie.Need-acos-requires
-acos-requires c κs = search needs
-
-note-requires : tie.Need-note-requires
-note-requires c κs = search needs
-
-note-requires-2 : tie.Need-note-requires-2
-note-requires-2 c κs = search needs
-
 returns : tie.Need-returns
 unfolding quotientC
 returns c = (simp (c .note2 .ensures, c .before .note .ensures, c .before .before .acos .ensures, checked-rules, vectors-rules), simp (c .before .before .acos .ensures))
 
 pub quotient-spec : {M : Type 1} → statement M
-quotient-spec = tie.close (tie.spec acos-requires note-requires note-requires-2 returns)
+quotient-spec = tie.close (tie.spec (λ c κs. search needs) (λ c κs. search needs) (λ c κs. search needs) returns)

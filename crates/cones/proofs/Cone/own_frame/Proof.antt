@@ -5,15 +5,6 @@ use mathlib.Core.Path.{sym}
 use Rattle.cones.proofs.Cone.own_frame.Statement.{statement}
 use Rattle.cones.proofs.Cone.own_frame.Tie as tie
 
-is-within-requires : tie.Need-is-within-requires
-is-within-requires c κs = search needs
-
-fails-requires : tie.Need-fails-requires
-fails-requires c κs = search needs
-
-answer-requires : tie.Need-answer-requires
-answer-requires c κs = search needs
-
 returns : tie.Need-returns
 unfolding frameDue
 returns c = simp (c .answer .ensures, c .before .if1 .taken, passing-none, ← c .before .before .fails .ensures, ← c .before .before .before .is-within .ensures)
@@ -23,4 +14,4 @@ unfolding frameDue
 returns-2 c = simp (← c .before .fails .ensures, ← c .before .before .is-within .ensures) (sym (passing-some _ _ (c .if1 .left)))
 
 pub own-frame-spec : {M : Type 1} → statement M
-own-frame-spec = tie.close (tie.spec is-within-requires fails-requires answer-requires returns returns-2)
+own-frame-spec = tie.close (tie.spec (λ c κs. search needs) (λ c κs. search needs) (λ c κs. search needs) returns returns-2)

@@ -5,18 +5,6 @@ use mathlib.Core.Path.{sym}
 use Rattle.cones.proofs.Frame.angle.Statement.{statement}
 use Rattle.cones.proofs.Frame.angle.Tie as tie
 
-is-within-with-requires : tie.Need-is-within-with-requires
-is-within-with-requires c κs = search needs
-
-fails-requires : tie.Need-fails-requires
-fails-requires c κs = search needs
-
-angle-requires : tie.Need-angle-requires
-angle-requires c κs = search needs
-
-settle-requires : tie.Need-settle-requires
-settle-requires c κs = search needs
-
 returns : tie.Need-returns
 unfolding angleDue
 returns c = simp (c .settle .ensures, c .before .angle .ensures .0, c .before .angle .ensures .1, c .before .before .if1 .taken, passing-none, ← c .before .before .before .fails .ensures, ← c .before .before .before .before .is-within-with .ensures)
@@ -27,4 +15,4 @@ returns-2 c = simp (← c .before .fails .ensures, ← c .before .before .is-wit
 
 pub angle-spec : {M : Type 1} → statement M
 angle-spec =
-    tie.close (tie.spec is-within-with-requires fails-requires angle-requires settle-requires returns returns-2)
+    tie.close (tie.spec (λ c κs. search needs) (λ c κs. search needs) (λ c κs. search needs) (λ c κs. search needs) returns returns-2)

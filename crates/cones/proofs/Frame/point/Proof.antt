@@ -5,18 +5,6 @@ use mathlib.Core.Path.{sym}
 use Rattle.cones.proofs.Frame.point.Statement.{statement}
 use Rattle.cones.proofs.Frame.point.Tie as tie
 
-is-within-with-requires : tie.Need-is-within-with-requires
-is-within-with-requires c κs = search needs
-
-fails-requires : tie.Need-fails-requires
-fails-requires c κs = search needs
-
-point-requires : tie.Need-point-requires
-point-requires c κs = search needs
-
-settle-requires : tie.Need-settle-requires
-settle-requires c κs = search needs
-
 returns : tie.Need-returns
 unfolding pointDue
 returns c = simp (c .settle .ensures, c .before .point .ensures .0, c .before .point .ensures .1, c .before .before .if1 .taken, passing-none, ← c .before .before .before .fails .ensures, ← c .before .before .before .before .is-within-with .ensures)
@@ -29,9 +17,9 @@ pub point-spec : {M : Type 1} → statement M
 point-spec =
     tie.close
     (tie.spec
-    is-within-with-requires
-    fails-requires
-    point-requires
-    settle-requires
+    (λ c κs. search needs)
+    (λ c κs. search needs)
+    (λ c κs. search needs)
+    (λ c κs. search needs)
     returns
     returns-2)

@@ -4,15 +4,6 @@ use borrow.Author.Tests.{lt-ltb, le-ltb}
 use Rattle.cones.proofs.formula.least_axis.Statement.{statement}
 use Rattle.cones.proofs.formula.least_axis.Tie as tie
 
-size-requires : tie.Need-size-requires
-size-requires c κs = search needs
-
-size-requires-2 : tie.Need-size-requires-2
-size-requires-2 c κs = search needs
-
-size-requires-3 : tie.Need-size-requires-3
-size-requires-3 c κs = search needs
-
 returns : tie.Need-returns
 unfolding leastAxis
 returns c = simp (lt-ltb _ _ (c .if2 .taken), lt-ltb _ _ (c .before .if1 .taken), ← c .before .before .size3 .ensures, ← c .before .before .before .size2 .ensures, ← c .before .before .before .before .size .ensures)
@@ -32,4 +23,4 @@ returns-4 c = simp (le-ltb _ _ (c .if3 .left), le-ltb _ _ (c .before .if1 .left)
 pub least-axis-spec : {M : Type 1} → statement M
 least-axis-spec =
     tie.close
-    (tie.spec size-requires size-requires-2 size-requires-3 returns returns-2 returns-3 returns-4)
+    (tie.spec (λ c κs. search needs) (λ c κs. search needs) (λ c κs. search needs) returns returns-2 returns-3 returns-4)

@@ -7,45 +7,6 @@ use mathlib.Core.Path.{sym, _∙_}
 use Rattle.cones.proofs.formula.own_frame.Statement.{statement}
 use Rattle.cones.proofs.formula.own_frame.Tie as tie
 
-dot-requires : tie.Need-dot-requires
-dot-requires c κs = search needs
-
-dot-requires-2 : tie.Need-dot-requires-2
-dot-requires-2 c κs = search needs
-
-dot-requires-3 : tie.Need-dot-requires-3
-dot-requires-3 c κs = search needs
-
-least-axis-requires : tie.Need-least-axis-requires
-least-axis-requires c κs = search needs
-
-across-requires : tie.Need-across-requires
-across-requires c κs = search needs
-
-length-requires : tie.Need-length-requires
-length-requires c κs = search needs
-
-times-requires : tie.Need-times-requires
-times-requires c κs = search needs
-
-cross-requires : tie.Need-cross-requires
-cross-requires c κs = search needs
-
-note-requires : tie.Need-note-requires
-note-requires c κs = search needs
-
-note-requires-2 : tie.Need-note-requires-2
-note-requires-2 c κs = search needs
-
-note-requires-3 : tie.Need-note-requires-3
-note-requires-3 c κs = search needs
-
-note-requires-4 : tie.Need-note-requires-4
-note-requires-4 c κs = search needs
-
-noted-requires : tie.Need-noted-requires
-noted-requires c κs = search needs
-
 returns : tie.Need-returns
 unfolding frameC unitC overLengthC
 returns c = ((simp (c .noted .ensures, c .before .note4 .ensures, c .before .before .note3 .ensures, c .before .before .before .note2 .ensures, c .before .before .before .before .note .ensures, c .before .before .before .before .before .cross .ensures, c .before .before .before .before .before .before .times .ensures, c .before .before .before .before .before .before .before .length .ensures, c .before .before .before .before .before .before .before .before .across .ensures, c .before .before .before .before .before .before .before .before .before .least-axis .ensures, c .before .before .before .before .before .before .before .before .before .before .dot3 .ensures, c .before .before .before .before .before .before .before .before .before .before .before .dot2 .ensures, c .before .before .before .before .before .before .before .before .before .before .before .before .dot .ensures, first-assoc, zero-first)) ∙ sym (frame-refusal (c .before .before .before .before .before .before .before .before .before .before .before .before .before .before .before .args .c)), simp (c .before .before .before .before .before .cross .ensures, c .before .before .before .before .before .before .times .ensures, c .before .before .before .before .before .before .before .length .ensures, c .before .before .before .before .before .before .before .before .across .ensures, c .before .before .before .before .before .before .before .before .before .least-axis .ensures, c .before .before .before .before .before .before .before .before .before .before .dot3 .ensures, c .before .before .before .before .before .before .before .before .before .before .before .dot2 .ensures, c .before .before .before .before .before .before .before .before .before .before .before .before .dot .ensures))
@@ -54,17 +15,17 @@ pub own-frame-spec : {M : Type 1} → statement M
 own-frame-spec =
     tie.close
     (tie.spec
-    dot-requires
-    dot-requires-2
-    dot-requires-3
-    least-axis-requires
-    across-requires
-    length-requires
-    times-requires
-    cross-requires
-    note-requires
-    note-requires-2
-    note-requires-3
-    note-requires-4
-    noted-requires
+    (λ c κs. search needs)
+    (λ c κs. search needs)
+    (λ c κs. search needs)
+    (λ c κs. search needs)
+    (λ c κs. search needs)
+    (λ c κs. search needs)
+    (λ c κs. search needs)
+    (λ c κs. search needs)
+    (λ c κs. search needs)
+    (λ c κs. search needs)
+    (λ c κs. search needs)
+    (λ c κs. search needs)
+    (λ c κs. search needs)
     returns)

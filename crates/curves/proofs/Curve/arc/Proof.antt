@@ -6,15 +6,6 @@ use mathlib.Core.Path.{sym}
 use Rattle.curves.proofs.Curve.arc.Statement.{statement}
 use Rattle.curves.proofs.Curve.arc.Tie as tie
 
-tried-requires : tie.Need-tried-requires
-tried-requires c κs = search needs
-
-enum-known-self : tie.Need-enum-known-self
-enum-known-self c = search needs
-
-enum-told : tie.Need-enum-told
-enum-told c = search needs
-
 returns : tie.Need-returns
 unfolding arcDue arcOf
 returns c = simp (c .before .before .before .if1 .taken, passing-none, ← c .before .before .before .before .tried .ensures) (simp (c .before .self .given .1))
@@ -31,9 +22,9 @@ pub arc-spec : {M : Type 1} → statement M
 arc-spec =
     tie.close
     (tie.spec
-    tried-requires
-    enum-known-self
-    enum-told
+    (λ c κs. search needs)
+    (λ c. search needs)
+    (λ c. search needs)
     returns
     returns-2
     returns-3)

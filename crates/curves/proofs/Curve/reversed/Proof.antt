@@ -5,15 +5,6 @@ use mathlib.Core.Path.{sym}
 use Rattle.curves.proofs.Curve.reversed.Statement.{statement}
 use Rattle.curves.proofs.Curve.reversed.Tie as tie
 
-tried-requires : tie.Need-tried-requires
-tried-requires c κs = search needs
-
-reversed-requires : tie.Need-reversed-requires
-reversed-requires c κs = search needs
-
-settle-requires : tie.Need-settle-requires
-settle-requires c κs = search needs
-
 returns : tie.Need-returns
 unfolding reversedDue
 returns c = simp (c .settle .ensures, c .before .reversed .ensures .0, c .before .reversed .ensures .1, c .before .before .if1 .taken, passing-none, ← c .before .before .before .tried .ensures)
@@ -26,8 +17,8 @@ pub reversed-spec : {M : Type 1} → statement M
 reversed-spec =
     tie.close
     (tie.spec
-    tried-requires
-    reversed-requires
-    settle-requires
+    (λ c κs. search needs)
+    (λ c κs. search needs)
+    (λ c κs. search needs)
     returns
     returns-2)

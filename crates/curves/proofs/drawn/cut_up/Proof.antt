@@ -3,15 +3,6 @@ use Rattle.curves.specs.Drawn.{chordsOf, ready}
 use Rattle.curves.proofs.drawn.cut_up.Statement.{statement}
 use Rattle.curves.proofs.drawn.cut_up.Tie as tie
 
-run-requires : tie.Need-run-requires
-run-requires c κs = search needs
-
-chords-of-requires : tie.Need-chords-of-requires
-chords-of-requires c κs = search needs
-
-earlier-requires : tie.Need-earlier-requires
-earlier-requires c κs = search needs
-
 returns : tie.Need-returns
 unfolding chordsOf ready
 returns c =
@@ -23,7 +14,7 @@ pub cut-up-spec : {M : Type 1} → statement M
 cut-up-spec =
     tie.close
     (tie.spec
-    run-requires
-    chords-of-requires
-    earlier-requires
+    (λ c κs. search needs)
+    (λ c κs. search needs)
+    (λ c κs. search needs)
     returns)

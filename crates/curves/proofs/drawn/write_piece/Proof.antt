@@ -9,18 +9,6 @@ use Rattle.curves.specs.Drawn.{chordsOf, pieceDue}
 use Rattle.curves.proofs.drawn.write_piece.Statement.{statement}
 use Rattle.curves.proofs.drawn.write_piece.Tie as tie
 
-tried-requires : tie.Need-tried-requires
-tried-requires c κs = search needs
-
-cut-up-requires : tie.Need-cut-up-requires
-cut-up-requires c κs = search needs
-
-write-points-requires : tie.Need-write-points-requires
-write-points-requires c κs = search needs
-
-same-length : tie.Need-same-length
-same-length c = search needs
-
 returns : tie.Need-returns
 unfolding pieceDue
 returns c =
@@ -49,10 +37,10 @@ pub write-piece-spec : {M : Type 1} → statement M
 write-piece-spec =
     tie.close
     (tie.spec
-    tried-requires
-    cut-up-requires
-    write-points-requires
-    same-length
+    (λ c κs. search needs)
+    (λ c κs. search needs)
+    (λ c κs. search needs)
+    (λ c. search needs)
     returns
     returns-2
     returns-3)

@@ -4,18 +4,6 @@ use Rattle.checked.specs.Laws.{rules as checked-rules}
 use Rattle.curves.proofs.formula.moved.Statement.{statement}
 use Rattle.curves.proofs.formula.moved.Tie as tie
 
-enum-known-c : tie.Need-enum-known-c
-enum-known-c c = search needs
-
-moved-arc-requires : tie.Need-moved-arc-requires
-moved-arc-requires c κs = search needs
-
-enum-known-c-2 : tie.Need-enum-known-c-2
-enum-known-c-2 c = search needs
-
-moved-piece-requires : tie.Need-moved-piece-requires
-moved-piece-requires c κs = search needs
-
 returns : tie.Need-returns
 unfolding movedC
 returns c = (simp (c .before .moved-arc .ensures .0, c .before .before .before .c .given .1, checked-rules), simp (c .before .moved-arc .ensures .1, c .before .before .before .c .given .1))
@@ -28,9 +16,9 @@ pub moved-spec : {M : Type 1} → statement M
 moved-spec =
     tie.close
     (tie.spec
-    enum-known-c
-    moved-arc-requires
-    enum-known-c-2
-    moved-piece-requires
+    (λ c. search needs)
+    (λ c κs. search needs)
+    (λ c. search needs)
+    (λ c κs. search needs)
     returns
     returns-2)

@@ -4,18 +4,6 @@ use Rattle.checked.specs.Laws.{rules as checked-rules}
 use Rattle.curves.proofs.formula.reversed.Statement.{statement}
 use Rattle.curves.proofs.formula.reversed.Tie as tie
 
-enum-known-c : tie.Need-enum-known-c
-enum-known-c c = search needs
-
-reversed-requires : tie.Need-reversed-requires
-reversed-requires c κs = search needs
-
-enum-known-c-2 : tie.Need-enum-known-c-2
-enum-known-c-2 c = search needs
-
-reversed-requires-2 : tie.Need-reversed-requires-2
-reversed-requires-2 c κs = search needs
-
 returns : tie.Need-returns
 unfolding reversedC
 returns c = (simp (c .before .reversed .ensures .0, c .before .before .before .c .given .1, checked-rules), simp (c .before .reversed .ensures .1, c .before .before .before .c .given .1))
@@ -28,9 +16,9 @@ pub reversed-spec : {M : Type 1} → statement M
 reversed-spec =
     tie.close
     (tie.spec
-    enum-known-c
-    reversed-requires
-    enum-known-c-2
-    reversed-requires-2
+    (λ c. search needs)
+    (λ c κs. search needs)
+    (λ c. search needs)
+    (λ c κs. search needs)
     returns
     returns-2)

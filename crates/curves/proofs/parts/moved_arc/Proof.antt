@@ -4,9 +4,6 @@ use Rattle.checked.specs.Laws.{rules as checked-rules}
 use Rattle.curves.proofs.parts.moved_arc.Statement.{statement}
 use Rattle.curves.proofs.parts.moved_arc.Tie as tie
 
-moved-requires : tie.Need-moved-requires
-moved-requires c κs = search needs
-
 returns : tie.Need-returns
 unfolding movedArcC
 returns c = (simp (c .before .before .moved .ensures .0, checked-rules), simp (c .before .before .moved .ensures .1))
@@ -15,5 +12,5 @@ pub moved-arc-spec : {M : Type 1} → statement M
 moved-arc-spec =
     tie.close
     (tie.spec
-    moved-requires
+    (λ c κs. search needs)
     returns)

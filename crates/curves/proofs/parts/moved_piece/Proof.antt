@@ -4,9 +4,6 @@ use Rattle.checked.specs.Laws.{rules as checked-rules}
 use Rattle.curves.proofs.parts.moved_piece.Statement.{statement}
 use Rattle.curves.proofs.parts.moved_piece.Tie as tie
 
-moved-by-requires : tie.Need-moved-by-requires
-moved-by-requires c κs = search needs
-
 returns : tie.Need-returns
 unfolding movedPieceC
 returns c = (simp (c .before .before .before .moved-by .ensures .0, checked-rules), simp (c .before .before .before .moved-by .ensures .1))
@@ -15,5 +12,5 @@ pub moved-piece-spec : {M : Type 1} → statement M
 moved-piece-spec =
     tie.close
     (tie.spec
-    moved-by-requires
+    (λ c κs. search needs)
     returns)

@@ -6,30 +6,6 @@ use mathlib.Core.Path.{sym, _∙_}
 use Rattle.developments.proofs.formulas.point.Statement.{statement}
 use Rattle.developments.proofs.formulas.point.Tie as tie
 
-times-requires : tie.Need-times-requires
-times-requires c κs = search needs
-
-plus-requires : tie.Need-plus-requires
-plus-requires c κs = search needs
-
-radial-requires : tie.Need-radial-requires
-radial-requires c κs = search needs
-
-times-requires-2 : tie.Need-times-requires-2
-times-requires-2 c κs = search needs
-
-plus-requires-2 : tie.Need-plus-requires-2
-plus-requires-2 c κs = search needs
-
-noted-requires : tie.Need-noted-requires
-noted-requires c κs = search needs
-
-earlier-requires : tie.Need-earlier-requires
-earlier-requires c κs = search needs
-
-noted-requires-2 : tie.Need-noted-requires-2
-noted-requires-2 c κs = search needs
-
 returns : tie.Need-returns
 unfolding pointC
 returns c = ((simp (c .noted2 .ensures, c .before .earlier .ensures, c .before .before .noted .ensures, c .before .before .before .plus2 .ensures, c .before .before .before .before .times2 .ensures, c .before .before .before .before .before .radial .ensures .0, c .before .before .before .before .before .radial .ensures .1, c .before .before .before .before .before .before .plus .ensures, c .before .before .before .before .before .before .before .times .ensures, first-assoc, zero-first)) ∙ sym (point-refusal (c .before .before .before .before .before .before .before .before .args .origin) (c .before .before .before .before .before .before .before .before .args .axis) (c .before .before .before .before .before .before .before .before .args .start) (c .before .before .before .before .before .before .before .before .args .neutral) (c .before .before .before .before .before .before .before .before .args .p) (c .before .before .before .before .before .before .before .before .args .r)), simp (c .before .before .before .plus2 .ensures, c .before .before .before .before .times2 .ensures, c .before .before .before .before .before .radial .ensures .1, c .before .before .before .before .before .before .plus .ensures, c .before .before .before .before .before .before .before .times .ensures))
@@ -38,12 +14,12 @@ pub point-spec : {M : Type 1} → statement M
 point-spec =
     tie.close
     (tie.spec
-    times-requires
-    plus-requires
-    radial-requires
-    times-requires-2
-    plus-requires-2
-    noted-requires
-    earlier-requires
-    noted-requires-2
+    (λ c κs. search needs)
+    (λ c κs. search needs)
+    (λ c κs. search needs)
+    (λ c κs. search needs)
+    (λ c κs. search needs)
+    (λ c κs. search needs)
+    (λ c κs. search needs)
+    (λ c κs. search needs)
     returns)

@@ -6,18 +6,9 @@ use mathlib.Core.Path.{sym, _∙_}
 use Rattle.directions.proofs.formula.radial.Statement.{statement}
 use Rattle.directions.proofs.formula.radial.Tie as tie
 
-minus-requires : tie.Need-minus-requires
-minus-requires c κs = search needs
-
-across-requires : tie.Need-across-requires
-across-requires c κs = search needs
-
-unit-requires : tie.Need-unit-requires
-unit-requires c κs = search needs
-
 returns : tie.Need-returns
 unfolding radialC
 returns c = ((simp (c .unit .ensures .0, c .unit .ensures .1, c .before .across .ensures, c .before .before .minus .ensures, first-assoc, zero-first)) ∙ sym (radial-refusal (c .before .before .before .args .origin) (c .before .before .before .args .axis) (c .before .before .before .args .p)), simp (c .unit .ensures .1, c .before .across .ensures, c .before .before .minus .ensures))
 
 pub radial-spec : {M : Type 1} → statement M
-radial-spec = tie.close (tie.spec minus-requires across-requires unit-requires returns)
+radial-spec = tie.close (tie.spec (λ c κs. search needs) (λ c κs. search needs) (λ c κs. search needs) returns)

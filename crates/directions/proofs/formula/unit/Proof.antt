@@ -3,12 +3,9 @@ use Rattle.directions.specs.Directions.{unitC}
 use Rattle.directions.proofs.formula.unit.Statement.{statement}
 use Rattle.directions.proofs.formula.unit.Tie as tie
 
-over-length-requires : tie.Need-over-length-requires
-over-length-requires c κs = search needs
-
 returns : tie.Need-returns
 unfolding unitC
 returns c = (simp (c .over-length .ensures .0), simp (c .over-length .ensures .1))
 
 pub unit-spec : {M : Type 1} → statement M
-unit-spec = tie.close (tie.spec over-length-requires returns)
+unit-spec = tie.close (tie.spec (λ c κs. search needs) returns)

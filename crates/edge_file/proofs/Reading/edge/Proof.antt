@@ -8,21 +8,6 @@ use borrow.Author.Needs.{needs}
 use Rattle.edge_file.proofs.Reading.edge.Statement.{statement}
 use Rattle.edge_file.proofs.Reading.edge.Tie as tie
 
-extended-requires : tie.Need-extended-requires
-extended-requires c κs = search needs
-
-enum-known-bounds : tie.Need-enum-known-bounds
-enum-known-bounds c = search needs
-
-next-number-requires : tie.Need-next-number-requires
-next-number-requires c κs = search needs
-
-enum-known-n : tie.Need-enum-known-n
-enum-known-n c = search needs
-
-stopped-requires : tie.Need-stopped-requires
-stopped-requires c κs = search needs
-
 returns : tie.Need-returns
 returns c =
     let x = c .before .before .before .before in
@@ -40,10 +25,10 @@ pub edge-spec : {M : Type 1} → statement M
 edge-spec =
     tie.close
     (tie.spec
-    extended-requires
-    enum-known-bounds
-    next-number-requires
-    enum-known-n
-    stopped-requires
+    (λ c κs. search needs)
+    (λ c. search needs)
+    (λ c κs. search needs)
+    (λ c. search needs)
+    (λ c κs. search needs)
     returns
     returns-2)

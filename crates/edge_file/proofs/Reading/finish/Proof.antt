@@ -5,27 +5,6 @@ use borrow.Author.Needs.{needs}
 use Rattle.edge_file.proofs.Reading.finish.Statement.{statement}
 use Rattle.edge_file.proofs.Reading.finish.Tie as tie
 
-enum-told : tie.Need-enum-told
-enum-told c = search needs
-
-refused-line-requires : tie.Need-refused-line-requires
-refused-line-requires c κs = search needs
-
-enum-known-status : tie.Need-enum-known-status
-enum-known-status c = search needs
-
-refused-line-requires-2 : tie.Need-refused-line-requires-2
-refused-line-requires-2 c κs = search needs
-
-enum-told-2 : tie.Need-enum-told-2
-enum-told-2 c = search needs
-
-box-line-requires : tie.Need-box-line-requires
-box-line-requires c κs = search needs
-
-empty-line-requires : tie.Need-empty-line-requires
-empty-line-requires c κs = search needs
-
 returns : tie.Need-returns
 returns c =
     let a = c .before .before .before .before .before .before .args in
@@ -50,13 +29,13 @@ pub finish-spec : {M : Type 1} → statement M
 finish-spec =
     tie.close
     (tie.spec
-    enum-told
-    refused-line-requires
-    enum-known-status
-    refused-line-requires-2
-    enum-told-2
-    box-line-requires
-    empty-line-requires
+    (λ c. search needs)
+    (λ c κs. search needs)
+    (λ c. search needs)
+    (λ c κs. search needs)
+    (λ c. search needs)
+    (λ c κs. search needs)
+    (λ c κs. search needs)
     returns
     returns-2
     returns-3

@@ -5,24 +5,6 @@ use borrow.Author.Needs.{needs}
 use Rattle.edge_file.proofs.Reading.first_of.Statement.{statement}
 use Rattle.edge_file.proofs.Reading.first_of.Tie as tie
 
-record-of-requires : tie.Need-record-of-requires
-record-of-requires c κs = search needs
-
-enum-known-e : tie.Need-enum-known-e
-enum-known-e c = search needs
-
-edge-requires : tie.Need-edge-requires
-edge-requires c κs = search needs
-
-enum-told : tie.Need-enum-told
-enum-told c = search needs
-
-enum-told-2 : tie.Need-enum-told-2
-enum-told-2 c = search needs
-
-stopped-requires : tie.Need-stopped-requires
-stopped-requires c κs = search needs
-
 returns : tie.Need-returns
 returns c =
     let x = c .before .before .before .before in
@@ -43,12 +25,12 @@ pub first-of-spec : {M : Type 1} → statement M
 first-of-spec =
     tie.close
     (tie.spec
-    record-of-requires
-    enum-known-e
-    edge-requires
-    enum-told
-    enum-told-2
-    stopped-requires
+    (λ c κs. search needs)
+    (λ c. search needs)
+    (λ c κs. search needs)
+    (λ c. search needs)
+    (λ c. search needs)
+    (λ c κs. search needs)
     returns
     returns-2
     returns-3)

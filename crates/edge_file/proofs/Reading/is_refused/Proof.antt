@@ -3,15 +3,6 @@ use Rattle.edge_file.specs.Steps.{isRefused}
 use Rattle.edge_file.proofs.Reading.is_refused.Statement.{statement}
 use Rattle.edge_file.proofs.Reading.is_refused.Tie as tie
 
-enum-told : tie.Need-enum-told
-enum-told c = search needs
-
-enum-told-2 : tie.Need-enum-told-2
-enum-told-2 c = search needs
-
-enum-told-3 : tie.Need-enum-told-3
-enum-told-3 c = search needs
-
 returns : tie.Need-returns
 unfolding isRefused
 returns c = simp (c .enum-told .given .1)
@@ -26,4 +17,4 @@ returns-3 c = simp (c .enum-told3 .given .1)
 
 pub is-refused-spec : {M : Type 1} → statement M
 is-refused-spec =
-    tie.close (tie.spec enum-told enum-told-2 enum-told-3 returns returns-2 returns-3)
+    tie.close (tie.spec (λ c. search needs) (λ c. search needs) (λ c. search needs) returns returns-2 returns-3)

@@ -3,24 +3,6 @@ use Rattle.edge_file.specs.Steps.{step}
 use Rattle.edge_file.proofs.Reading.step.Statement.{statement}
 use Rattle.edge_file.proofs.Reading.step.Tie as tie
 
-enum-told : tie.Need-enum-told
-enum-told c = search needs
-
-first-of-requires : tie.Need-first-of-requires
-first-of-requires c κs = search needs
-
-enum-told-2 : tie.Need-enum-told-2
-enum-told-2 c = search needs
-
-next-number-requires : tie.Need-next-number-requires
-next-number-requires c κs = search needs
-
-stopped-requires : tie.Need-stopped-requires
-stopped-requires c κs = search needs
-
-enum-told-3 : tie.Need-enum-told-3
-enum-told-3 c = search needs
-
 returns : tie.Need-returns
 unfolding step
 returns c = simp (c .first-of .ensures, c .before .enum-told .given .1)
@@ -37,12 +19,12 @@ pub step-spec : {M : Type 1} → statement M
 step-spec =
     tie.close
     (tie.spec
-    enum-told
-    first-of-requires
-    enum-told-2
-    next-number-requires
-    stopped-requires
-    enum-told-3
+    (λ c. search needs)
+    (λ c κs. search needs)
+    (λ c. search needs)
+    (λ c κs. search needs)
+    (λ c κs. search needs)
+    (λ c. search needs)
     returns
     returns-2
     returns-3)

@@ -5,44 +5,11 @@ use borrow.Author.Needs.{needs}
 use Rattle.exports.proofs.of_curves.jr_curve_inner_points.Statement.{statement}
 use Rattle.exports.proofs.of_curves.jr_curve_inner_points.Tie as tie
 
-is-curve-requires : tie.Need-is-curve-requires
-is-curve-requires c κs = search needs
-
-curve-of-requires : tie.Need-curve-of-requires
-curve-of-requires c κs = search needs
-
-vec3-of-requires : tie.Need-vec3-of-requires
-vec3-of-requires c κs = search needs
-
-vec3-of-requires-2 : tie.Need-vec3-of-requires-2
-vec3-of-requires-2 c κs = search needs
-
-write-inner-points-requires : tie.Need-write-inner-points-requires
-write-inner-points-requires c κs = search needs
-
-cast-written : tie.Need-cast-written
-cast-written c = search needs
-
-mul-written : tie.Need-mul-written
-mul-written c = search needs
-
-element-write-written : tie.Need-element-write-written
-element-write-written c = search needs
-
-same-length : tie.Need-same-length
-same-length c = search needs
-
 returns : tie.Need-returns
 returns c =
     let known = sym (c .before .before .before .before .before .before .before .before .before .before .is-curve .ensures) ∙ c .before .before .before .before .before .before .before .before .before .if1 .taken in
     let d = simp (c .before .before .before .before .before .before .before .before .curve-of .ensures, c .before .before .before .before .before .before .before .vec3-of .ensures, c .before .before .before .before .before .before .vec3-of2 .ensures) at (c .before .before .before .before .write-inner-points .ensures) in
     simp known (sym (c .before .if2 .taken) ∙ d .number, (d .rest, counted _ _ _ _ (d .number) (c .before .if2 .taken) (d .part)))
-
-cast-result : tie.Need-cast-result
-cast-result c = search needs
-
-same-length-2 : tie.Need-same-length-2
-same-length-2 c = search needs
 
 returns-2 : tie.Need-returns-2
 returns-2 c =
@@ -55,4 +22,4 @@ unfolding afterCount
 returns-3 c = (simp (sym (c .before .is-curve .ensures) ∙ c .if1 .left), (simp (sym (c .before .is-curve .ensures) ∙ c .if1 .left), simp (sym (c .before .is-curve .ensures) ∙ c .if1 .left)))
 
 pub jr-curve-inner-points-spec : {M : Type 1} → statement M
-jr-curve-inner-points-spec = tie.close (tie.spec is-curve-requires curve-of-requires vec3-of-requires vec3-of-requires-2 write-inner-points-requires cast-written mul-written element-write-written same-length returns cast-result same-length-2 returns-2 returns-3)
+jr-curve-inner-points-spec = tie.close (tie.spec (λ c κs. search needs) (λ c κs. search needs) (λ c κs. search needs) (λ c κs. search needs) (λ c κs. search needs) (λ c. search needs) (λ c. search needs) (λ c. search needs) (λ c. search needs) returns (λ c. search needs) (λ c. search needs) returns-2 returns-3)

@@ -5,18 +5,6 @@ use Rattle.c_shapes.specs.Stores.{stored}
 use Rattle.exports.proofs.of_curves.jr_curve_reversed.Statement.{statement}
 use Rattle.exports.proofs.of_curves.jr_curve_reversed.Tie as tie
 
-is-curve-requires : tie.Need-is-curve-requires
-is-curve-requires c κs = search needs
-
-curve-of-requires : tie.Need-curve-of-requires
-curve-of-requires c κs = search needs
-
-reversed-requires : tie.Need-reversed-requires
-reversed-requires c κs = search needs
-
-store-curve-requires : tie.Need-store-curve-requires
-store-curve-requires c κs = search needs
-
 returns : tie.Need-returns
 returns c = simp (sym (c .before .before .before .before .before .before .is-curve .ensures) ∙ c .before .before .before .before .before .if1 .taken) (simp (c .before .before .before .reversed .ensures, c .before .before .before .before .curve-of .ensures) at (c .store-curve .ensures))
 
@@ -25,4 +13,4 @@ unfolding after stored
 returns-2 c = (simp (sym (c .before .is-curve .ensures) ∙ c .if1 .left), (simp (sym (c .before .is-curve .ensures) ∙ c .if1 .left), simp (sym (c .before .is-curve .ensures) ∙ c .if1 .left)))
 
 pub jr-curve-reversed-spec : {M : Type 1} → statement M
-jr-curve-reversed-spec = tie.close (tie.spec is-curve-requires curve-of-requires reversed-requires store-curve-requires returns returns-2)
+jr-curve-reversed-spec = tie.close (tie.spec (λ c κs. search needs) (λ c κs. search needs) (λ c κs. search needs) (λ c κs. search needs) returns returns-2)

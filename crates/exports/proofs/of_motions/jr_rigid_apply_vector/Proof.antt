@@ -2,18 +2,6 @@ use borrow.Author.Needs.{needs}
 use Rattle.exports.proofs.of_motions.jr_rigid_apply_vector.Statement.{statement}
 use Rattle.exports.proofs.of_motions.jr_rigid_apply_vector.Tie as tie
 
-rigid-of-requires : tie.Need-rigid-of-requires
-rigid-of-requires c κs = search needs
-
-vec3-of-requires : tie.Need-vec3-of-requires
-vec3-of-requires c κs = search needs
-
-apply-vector-requires : tie.Need-apply-vector-requires
-apply-vector-requires c κs = search needs
-
-store-vector-requires : tie.Need-store-vector-requires
-store-vector-requires c κs = search needs
-
 returns : tie.Need-returns
 returns c = simp (c .before .before .apply-vector .ensures, c .before .before .before .vec3-of .ensures, c .before .before .before .before .rigid-of .ensures) at (c .store-vector .ensures)
 
@@ -21,8 +9,8 @@ pub jr-rigid-apply-vector-spec : {M : Type 1} → statement M
 jr-rigid-apply-vector-spec =
     tie.close
     (tie.spec
-    rigid-of-requires
-    vec3-of-requires
-    apply-vector-requires
-    store-vector-requires
+    (λ c κs. search needs)
+    (λ c κs. search needs)
+    (λ c κs. search needs)
+    (λ c κs. search needs)
     returns)

@@ -4,21 +4,6 @@ use Rattle.c_arrays.specs.Records.{after}
 use Rattle.exports.proofs.of_pieces.jr_piece_normal.Statement.{statement}
 use Rattle.exports.proofs.of_pieces.jr_piece_normal.Tie as tie
 
-is-piece-requires : tie.Need-is-piece-requires
-is-piece-requires c κs = search needs
-
-piece-of-requires : tie.Need-piece-of-requires
-piece-of-requires c κs = search needs
-
-vec2-of-requires : tie.Need-vec2-of-requires
-vec2-of-requires c κs = search needs
-
-normal-requires : tie.Need-normal-requires
-normal-requires c κs = search needs
-
-store-vector-requires : tie.Need-store-vector-requires
-store-vector-requires c κs = search needs
-
 returns : tie.Need-returns
 returns c = simp (sym (c .before .before .before .before .before .before .is-piece .ensures) ∙ c .before .before .before .before .before .if1 .taken) (simp (c .before .before .normal .ensures, c .before .before .before .vec2-of .ensures, c .before .before .before .before .piece-of .ensures) at (c .store-vector .ensures))
 
@@ -27,4 +12,4 @@ unfolding after
 returns-2 c = (simp (sym (c .before .is-piece .ensures) ∙ c .if1 .left), simp (sym (c .before .is-piece .ensures) ∙ c .if1 .left))
 
 pub jr-piece-normal-spec : {M : Type 1} → statement M
-jr-piece-normal-spec = tie.close (tie.spec is-piece-requires piece-of-requires vec2-of-requires normal-requires store-vector-requires returns returns-2)
+jr-piece-normal-spec = tie.close (tie.spec (λ c κs. search needs) (λ c κs. search needs) (λ c κs. search needs) (λ c κs. search needs) (λ c κs. search needs) returns returns-2)

@@ -5,18 +5,6 @@ use Rattle.c_shapes.specs.Stores.{stored}
 use Rattle.exports.proofs.of_pieces.jr_piece_reversed.Statement.{statement}
 use Rattle.exports.proofs.of_pieces.jr_piece_reversed.Tie as tie
 
-is-piece-requires : tie.Need-is-piece-requires
-is-piece-requires c κs = search needs
-
-piece-of-requires : tie.Need-piece-of-requires
-piece-of-requires c κs = search needs
-
-reversed-requires : tie.Need-reversed-requires
-reversed-requires c κs = search needs
-
-store-piece-requires : tie.Need-store-piece-requires
-store-piece-requires c κs = search needs
-
 returns : tie.Need-returns
 returns c = simp (sym (c .before .before .before .before .before .before .is-piece .ensures) ∙ c .before .before .before .before .before .if1 .taken) (simp (c .before .before .before .reversed .ensures, c .before .before .before .before .piece-of .ensures) at (c .store-piece .ensures))
 
@@ -25,4 +13,4 @@ unfolding after stored
 returns-2 c = (simp (sym (c .before .is-piece .ensures) ∙ c .if1 .left), (simp (sym (c .before .is-piece .ensures) ∙ c .if1 .left), simp (sym (c .before .is-piece .ensures) ∙ c .if1 .left)))
 
 pub jr-piece-reversed-spec : {M : Type 1} → statement M
-jr-piece-reversed-spec = tie.close (tie.spec is-piece-requires piece-of-requires reversed-requires store-piece-requires returns returns-2)
+jr-piece-reversed-spec = tie.close (tie.spec (λ c κs. search needs) (λ c κs. search needs) (λ c κs. search needs) (λ c κs. search needs) returns returns-2)

@@ -4,27 +4,6 @@ use Rattle.c_arrays.specs.Records.{after}
 use Rattle.exports.proofs.of_sums.jr_revolution_add_piece.Statement.{statement}
 use Rattle.exports.proofs.of_sums.jr_revolution_add_piece.Tie as tie
 
-is-piece-requires : tie.Need-is-piece-requires
-is-piece-requires c κs = search needs
-
-cone-of-requires : tie.Need-cone-of-requires
-cone-of-requires c κs = search needs
-
-vec3-of-requires : tie.Need-vec3-of-requires
-vec3-of-requires c κs = search needs
-
-piece-of-requires : tie.Need-piece-of-requires
-piece-of-requires c κs = search needs
-
-sums-of-requires : tie.Need-sums-of-requires
-sums-of-requires c κs = search needs
-
-add-piece-requires : tie.Need-add-piece-requires
-add-piece-requires c κs = search needs
-
-store-sums-requires : tie.Need-store-sums-requires
-store-sums-requires c κs = search needs
-
 returns : tie.Need-returns
 returns c = simp (sym (c .before .before .before .before .before .before .before .before .before .is-piece .ensures) ∙ c .before .before .before .before .before .before .before .before .if1 .taken) (simp (c .before .before .add-piece .ensures, c .before .before .before .sums-of .ensures, c .before .before .before .before .before .piece-of .ensures, c .before .before .before .before .before .before .vec3-of .ensures, c .before .before .before .before .before .before .before .cone-of .ensures) at (c .store-sums .ensures))
 
@@ -33,4 +12,4 @@ unfolding after
 returns-2 c = (simp (sym (c .before .is-piece .ensures) ∙ c .if1 .left), simp (sym (c .before .is-piece .ensures) ∙ c .if1 .left))
 
 pub jr-revolution-add-piece-spec : {M : Type 1} → statement M
-jr-revolution-add-piece-spec = tie.close (tie.spec is-piece-requires cone-of-requires vec3-of-requires piece-of-requires sums-of-requires add-piece-requires store-sums-requires returns returns-2)
+jr-revolution-add-piece-spec = tie.close (tie.spec (λ c κs. search needs) (λ c κs. search needs) (λ c κs. search needs) (λ c κs. search needs) (λ c κs. search needs) (λ c κs. search needs) (λ c κs. search needs) returns returns-2)

@@ -4,21 +4,6 @@ use Rattle.c_arrays.specs.Records.{after}
 use Rattle.exports.proofs.of_surfaces.jr_surface_normal_at.Statement.{statement}
 use Rattle.exports.proofs.of_surfaces.jr_surface_normal_at.Tie as tie
 
-is-surface-requires : tie.Need-is-surface-requires
-is-surface-requires c κs = search needs
-
-surface-of-requires : tie.Need-surface-of-requires
-surface-of-requires c κs = search needs
-
-vec3-of-requires : tie.Need-vec3-of-requires
-vec3-of-requires c κs = search needs
-
-normal-at-requires : tie.Need-normal-at-requires
-normal-at-requires c κs = search needs
-
-store-vector-requires : tie.Need-store-vector-requires
-store-vector-requires c κs = search needs
-
 returns : tie.Need-returns
 returns c = simp (sym (c .before .before .before .before .before .before .is-surface .ensures) ∙ c .before .before .before .before .before .if1 .taken) (simp (c .before .before .normal-at .ensures, c .before .before .before .vec3-of .ensures, c .before .before .before .before .surface-of .ensures) at (c .store-vector .ensures))
 
@@ -27,4 +12,4 @@ unfolding after
 returns-2 c = (simp (sym (c .before .is-surface .ensures) ∙ c .if1 .left), simp (sym (c .before .is-surface .ensures) ∙ c .if1 .left))
 
 pub jr-surface-normal-at-spec : {M : Type 1} → statement M
-jr-surface-normal-at-spec = tie.close (tie.spec is-surface-requires surface-of-requires vec3-of-requires normal-at-requires store-vector-requires returns returns-2)
+jr-surface-normal-at-spec = tie.close (tie.spec (λ c κs. search needs) (λ c κs. search needs) (λ c κs. search needs) (λ c κs. search needs) (λ c κs. search needs) returns returns-2)

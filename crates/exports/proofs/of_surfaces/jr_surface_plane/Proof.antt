@@ -4,18 +4,6 @@ use Rattle.c_arrays.specs.Records.{after}
 use Rattle.exports.proofs.of_surfaces.jr_surface_plane.Statement.{statement}
 use Rattle.exports.proofs.of_surfaces.jr_surface_plane.Tie as tie
 
-is-surface-requires : tie.Need-is-surface-requires
-is-surface-requires c κs = search needs
-
-surface-of-requires : tie.Need-surface-of-requires
-surface-of-requires c κs = search needs
-
-plane-requires : tie.Need-plane-requires
-plane-requires c κs = search needs
-
-store-plane-requires : tie.Need-store-plane-requires
-store-plane-requires c κs = search needs
-
 returns : tie.Need-returns
 returns c = simp (sym (c .before .before .before .before .before .is-surface .ensures) ∙ c .before .before .before .before .if1 .taken) (simp (c .before .before .plane .ensures, c .before .before .before .surface-of .ensures) at (c .store-plane .ensures))
 
@@ -24,4 +12,4 @@ unfolding after
 returns-2 c = (simp (sym (c .before .is-surface .ensures) ∙ c .if1 .left), simp (sym (c .before .is-surface .ensures) ∙ c .if1 .left))
 
 pub jr-surface-plane-spec : {M : Type 1} → statement M
-jr-surface-plane-spec = tie.close (tie.spec is-surface-requires surface-of-requires plane-requires store-plane-requires returns returns-2)
+jr-surface-plane-spec = tie.close (tie.spec (λ c κs. search needs) (λ c κs. search needs) (λ c κs. search needs) (λ c κs. search needs) returns returns-2)

@@ -4,18 +4,6 @@ use Rattle.c_arrays.specs.Records.{after}
 use Rattle.exports.proofs.of_traces.jr_meet_point.Statement.{statement}
 use Rattle.exports.proofs.of_traces.jr_meet_point.Tie as tie
 
-is-turn-requires : tie.Need-is-turn-requires
-is-turn-requires c κs = search needs
-
-meet-of-requires : tie.Need-meet-of-requires
-meet-of-requires c κs = search needs
-
-point-requires : tie.Need-point-requires
-point-requires c κs = search needs
-
-store-points-requires : tie.Need-store-points-requires
-store-points-requires c κs = search needs
-
 returns : tie.Need-returns
 returns c = simp (sym (c .before .before .before .before .before .is-turn .ensures) ∙ c .before .before .before .before .if1 .taken) (simp (c .before .before .point .ensures, c .before .before .before .meet-of .ensures) at (c .store-points .ensures))
 
@@ -24,4 +12,4 @@ unfolding after
 returns-2 c = (simp (sym (c .before .is-turn .ensures) ∙ c .if1 .left), simp (sym (c .before .is-turn .ensures) ∙ c .if1 .left))
 
 pub jr-meet-point-spec : {M : Type 1} → statement M
-jr-meet-point-spec = tie.close (tie.spec is-turn-requires meet-of-requires point-requires store-points-requires returns returns-2)
+jr-meet-point-spec = tie.close (tie.spec (λ c κs. search needs) (λ c κs. search needs) (λ c κs. search needs) (λ c κs. search needs) returns returns-2)

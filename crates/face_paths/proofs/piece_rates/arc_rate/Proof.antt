@@ -4,18 +4,6 @@ use Rattle.checked.specs.Laws.{rules as checked-rules}
 use Rattle.face_paths.proofs.piece_rates.arc_rate.Statement.{statement}
 use Rattle.face_paths.proofs.piece_rates.arc_rate.Tie as tie
 
-swing-requires : tie.Need-swing-requires
-swing-requires c κs = search needs
-
-note-requires : tie.Need-note-requires
-note-requires c κs = search needs
-
-note-requires-2 : tie.Need-note-requires-2
-note-requires-2 c κs = search needs
-
-note-requires-3 : tie.Need-note-requires-3
-note-requires-3 c κs = search needs
-
 returns : tie.Need-returns
 unfolding arcC
 returns c =
@@ -26,8 +14,8 @@ pub arc-rate-spec : {M : Type 1} → statement M
 arc-rate-spec =
     tie.close
     (tie.spec
-    swing-requires
-    note-requires
-    note-requires-2
-    note-requires-3
+    (λ c κs. search needs)
+    (λ c κs. search needs)
+    (λ c κs. search needs)
+    (λ c κs. search needs)
     returns)

@@ -5,18 +5,6 @@ use Rattle.piece_curves.specs.MeetCurvesLaws.{point-refusal, point-value}
 use Rattle.face_paths.proofs.piece_rates.meet_rate.Statement.{statement}
 use Rattle.face_paths.proofs.piece_rates.meet_rate.Tie as tie
 
-motion-requires : tie.Need-motion-requires
-motion-requires c κs = search needs
-
-placed-requires : tie.Need-placed-requires
-placed-requires c κs = search needs
-
-earlier-requires : tie.Need-earlier-requires
-earlier-requires c κs = search needs
-
-earlier-requires-2 : tie.Need-earlier-requires-2
-earlier-requires-2 c κs = search needs
-
 returns : tie.Need-returns
 unfolding meetC
 returns c =
@@ -28,8 +16,8 @@ pub meet-rate-spec : {M : Type 1} → statement M
 meet-rate-spec =
     tie.close
     (tie.spec
-    motion-requires
-    placed-requires
-    earlier-requires
-    earlier-requires-2
+    (λ c κs. search needs)
+    (λ c κs. search needs)
+    (λ c κs. search needs)
+    (λ c κs. search needs)
     returns)

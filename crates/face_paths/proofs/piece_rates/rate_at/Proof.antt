@@ -3,30 +3,6 @@ use Rattle.face_paths.specs.PieceRates.{rateC}
 use Rattle.face_paths.proofs.piece_rates.rate_at.Statement.{statement}
 use Rattle.face_paths.proofs.piece_rates.rate_at.Tie as tie
 
-enum-told : tie.Need-enum-told
-enum-told c = search needs
-
-straight-rate-requires : tie.Need-straight-rate-requires
-straight-rate-requires c κs = search needs
-
-enum-known-w : tie.Need-enum-known-w
-enum-known-w c = search needs
-
-arc-rate-requires : tie.Need-arc-rate-requires
-arc-rate-requires c κs = search needs
-
-enum-known-w-2 : tie.Need-enum-known-w-2
-enum-known-w-2 c = search needs
-
-wave-rate-requires : tie.Need-wave-rate-requires
-wave-rate-requires c κs = search needs
-
-enum-known-w-3 : tie.Need-enum-known-w-3
-enum-known-w-3 c = search needs
-
-meet-rate-requires : tie.Need-meet-rate-requires
-meet-rate-requires c κs = search needs
-
 returns : tie.Need-returns
 unfolding rateC
 returns c = (simp (c .straight-rate .ensures .0, c .before .enum-told .given .1), simp (c .straight-rate .ensures .1, c .before .enum-told .given .1))
@@ -47,14 +23,14 @@ pub rate-at-spec : {M : Type 1} → statement M
 rate-at-spec =
     tie.close
     (tie.spec
-    enum-told
-    straight-rate-requires
-    enum-known-w
-    arc-rate-requires
-    enum-known-w-2
-    wave-rate-requires
-    enum-known-w-3
-    meet-rate-requires
+    (λ c. search needs)
+    (λ c κs. search needs)
+    (λ c. search needs)
+    (λ c κs. search needs)
+    (λ c. search needs)
+    (λ c κs. search needs)
+    (λ c. search needs)
+    (λ c κs. search needs)
     returns
     returns-2
     returns-3

@@ -4,12 +4,6 @@ use borrow.Author.Tests.{eq-eqb, ne-eqb}
 use Rattle.libm.proofs.acos.acos_far.Statement.{statement}
 use Rattle.libm.proofs.acos.acos_far.Tie as tie
 
-size-requires : tie.Need-size-requires
-size-requires c κs = search needs
-
-sign-requires : tie.Need-sign-requires
-sign-requires c κs = search needs
-
 returns : tie.Need-returns
 unfolding acosFar
 returns c = simp (eq-eqb _ _ (c .if2 .taken), ← c .before .sign .ensures, eq-eqb _ _ (c .before .before .if1 .taken), ← c .before .before .before .size .ensures)
@@ -23,4 +17,4 @@ unfolding acosFar
 returns-3 c = simp (ne-eqb _ _ (c .if1 .left), ← c .before .size .ensures)
 
 pub acos-far-spec : {M : Type 1} → statement M
-acos-far-spec = tie.close (tie.spec size-requires sign-requires returns returns-2 returns-3)
+acos-far-spec = tie.close (tie.spec (λ c κs. search needs) (λ c κs. search needs) returns returns-2 returns-3)

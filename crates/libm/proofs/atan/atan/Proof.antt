@@ -7,35 +7,8 @@ use mathlib.Core.Path.{sym, _∙_}
 use Rattle.libm.proofs.atan.atan.Statement.{statement}
 use Rattle.libm.proofs.atan.atan.Tie as tie
 
-is-nan-requires : tie.Need-is-nan-requires
-is-nan-requires c κs = search needs
-
-high-word-requires : tie.Need-high-word-requires
-high-word-requires c κs = search needs
-
-sign-requires : tie.Need-sign-requires
-sign-requires c κs = search needs
-
-signed-requires : tie.Need-signed-requires
-signed-requires c κs = search needs
-
-atan-small-requires : tie.Need-atan-small-requires
-atan-small-requires c κs = search needs
-
-sign-requires-2 : tie.Need-sign-requires-2
-sign-requires-2 c κs = search needs
-
 fabs-number-requires : tie.Need-fabs-number-requires
 fabs-number-requires c κs = no (sym (c .before .before .before .before .before .is-nan .ensures) ∙ c .before .before .before .before .if1 .left)
-
-reduction-requires : tie.Need-reduction-requires
-reduction-requires c κs = search needs
-
-folded-requires : tie.Need-folded-requires
-folded-requires c κs = search needs
-
-signed-requires-2 : tie.Need-signed-requires-2
-signed-requires-2 c κs = search needs
 
 returns : tie.Need-returns
 returns c = atan-nan _ (sym (c .before .is-nan .ensures) ∙ c .if1 .taken)
@@ -56,16 +29,16 @@ pub atan-spec : {M : Type 1} → statement M
 atan-spec =
     tie.close
     (tie.spec
-    is-nan-requires
-    high-word-requires
-    sign-requires
-    signed-requires
-    atan-small-requires
-    sign-requires-2
+    (λ c κs. search needs)
+    (λ c κs. search needs)
+    (λ c κs. search needs)
+    (λ c κs. search needs)
+    (λ c κs. search needs)
+    (λ c κs. search needs)
     fabs-number-requires
-    reduction-requires
-    folded-requires
-    signed-requires-2
+    (λ c κs. search needs)
+    (λ c κs. search needs)
+    (λ c κs. search needs)
     returns
     returns-2
     returns-3

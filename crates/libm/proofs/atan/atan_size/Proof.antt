@@ -13,26 +13,11 @@ use Rattle.libm.proofs.atan.atan_size.Tie as tie
 held : (c : tie.Start) → T (fits binary64 (c .args .x))
 held c = subst T (sym (c .good .0 .1)) tt
 
-is-nan-requires : tie.Need-is-nan-requires
-is-nan-requires c κs = search needs
-
-high-word-requires : tie.Need-high-word-requires
-high-word-requires c κs = search needs
-
 fabs-number-requires : tie.Need-fabs-number-requires
 fabs-number-requires c κs = no (sym (c .before .before .before .before .is-nan .ensures) ∙ c .before .before .before .if1 .left)
 
-atan-small-requires : tie.Need-atan-small-requires
-atan-small-requires c κs = search needs
-
 fabs-number-requires-2 : tie.Need-fabs-number-requires-2
 fabs-number-requires-2 c κs = no (sym (c .before .before .before .before .is-nan .ensures) ∙ c .before .before .before .if1 .left)
-
-reduction-requires : tie.Need-reduction-requires
-reduction-requires c κs = search needs
-
-folded-requires : tie.Need-folded-requires
-folded-requires c κs = search needs
 
 returns : tie.Need-returns
 returns c = atan-nan-size _ (sym (c .before .is-nan .ensures) ∙ c .if1 .taken)
@@ -53,13 +38,13 @@ pub atan-size-spec : {M : Type 1} → statement M
 atan-size-spec =
     tie.close
     (tie.spec
-    is-nan-requires
-    high-word-requires
+    (λ c κs. search needs)
+    (λ c κs. search needs)
     fabs-number-requires
-    atan-small-requires
+    (λ c κs. search needs)
     fabs-number-requires-2
-    reduction-requires
-    folded-requires
+    (λ c κs. search needs)
+    (λ c κs. search needs)
     returns
     returns-2
     returns-3

@@ -9,9 +9,6 @@ use Rattle.libm.proofs.atan.fabs_number.Tie as tie
 held : (c : tie.Start) → T (fits binary64 (c .args .x))
 held c = subst T (sym (c .good .0 .1)) tt
 
-float-to-bits-result : tie.Need-float-to-bits-result
-float-to-bits-result c = search needs
-
 float-from-bits-result : tie.Need-float-from-bits-result
 float-from-bits-result c = size-number (c .args .x) (held c) (c .pre)
 
@@ -19,4 +16,4 @@ returns : tie.Need-returns
 returns c = fabs-bits (c .args .x) (held c)
 
 pub fabs-number-spec : {M : Type 1} → statement M
-fabs-number-spec = tie.close (tie.spec float-to-bits-result float-from-bits-result returns)
+fabs-number-spec = tie.close (tie.spec (λ c. search needs) float-from-bits-result returns)

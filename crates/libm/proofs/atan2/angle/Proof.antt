@@ -15,53 +15,11 @@ held-y c = subst T (sym (c .good .0 .1)) tt
 held-x : (c : tie.Start) → T (fits binary64 (c .args .x))
 held-x c = subst T (sym (c .good .1 .0 .1)) tt
 
-high-word-requires : tie.Need-high-word-requires
-high-word-requires c κs = search needs
-
-high-word-requires-2 : tie.Need-high-word-requires-2
-high-word-requires-2 c κs = search needs
-
-sign-requires : tie.Need-sign-requires
-sign-requires c κs = search needs
-
 mul-m : tie.Need-mul-m
 mul-m c = omega (arith, c .sign .ensures, sign-most (c .before .before .before .args .x) (held-x (c .before .before .before)))
 
-sign-requires-2 : tie.Need-sign-requires-2
-sign-requires-2 c κs = search needs
-
 add-m : tie.Need-add-m
 add-m c = omega (arith, c .sign2 .ensures, c .before .sign .ensures, sign-most (c .before .before .before .before .args .x) (held-x (c .before .before .before .before)), sign-most (c .before .before .before .before .args .y) (held-y (c .before .before .before .before)))
-
-is-one-requires : tie.Need-is-one-requires
-is-one-requires c κs = search needs
-
-atan-requires : tie.Need-atan-requires
-atan-requires c κs = search needs
-
-size-requires : tie.Need-size-requires
-size-requires c κs = search needs
-
-choose-requires : tie.Need-choose-requires
-choose-requires c κs = search needs
-
-size-requires-2 : tie.Need-size-requires-2
-size-requires-2 c κs = search needs
-
-quarter-turn-requires : tie.Need-quarter-turn-requires
-quarter-turn-requires c κs = search needs
-
-at-infinite-x-requires : tie.Need-at-infinite-x-requires
-at-infinite-x-requires c κs = search needs
-
-add-if5 : tie.Need-add-if5
-add-if5 c = search needs
-
-quarter-turn-requires-2 : tie.Need-quarter-turn-requires-2
-quarter-turn-requires-2 c κs = search needs
-
-ratio-angle-requires : tie.Need-ratio-angle-requires
-ratio-angle-requires c κs = search needs
 
 in-quadrant-requires : tie.Need-in-quadrant-requires
 in-quadrant-requires c κs = omega (arith, c .before .before .before .before .before .before .before .before .before .sign2 .ensures, c .before .before .before .before .before .before .before .before .before .before .sign .ensures, sign-most (c .before .before .before .before .before .before .before .before .before .before .before .before .before .args .x) (held-x (c .before .before .before .before .before .before .before .before .before .before .before .before .before)), sign-most (c .before .before .before .before .before .before .before .before .before .before .before .before .before .args .y) (held-y (c .before .before .before .before .before .before .before .before .before .before .before .before .before)))
@@ -94,22 +52,22 @@ pub angle-spec : {M : Type 1} → statement M
 angle-spec =
     tie.close
     (tie.spec
-    high-word-requires
-    high-word-requires-2
-    sign-requires
+    (λ c κs. search needs)
+    (λ c κs. search needs)
+    (λ c κs. search needs)
     mul-m
-    sign-requires-2
+    (λ c κs. search needs)
     add-m
-    is-one-requires
-    atan-requires
-    size-requires
-    choose-requires
-    size-requires-2
-    quarter-turn-requires
-    at-infinite-x-requires
-    add-if5
-    quarter-turn-requires-2
-    ratio-angle-requires
+    (λ c κs. search needs)
+    (λ c κs. search needs)
+    (λ c κs. search needs)
+    (λ c κs. search needs)
+    (λ c κs. search needs)
+    (λ c κs. search needs)
+    (λ c κs. search needs)
+    (λ c. search needs)
+    (λ c κs. search needs)
+    (λ c κs. search needs)
     in-quadrant-requires
     returns
     returns-2

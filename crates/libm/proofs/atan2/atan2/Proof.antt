@@ -4,15 +4,6 @@ use mathlib.Core.Path.{sym, _∙_}
 use Rattle.libm.proofs.atan2.atan2.Statement.{statement}
 use Rattle.libm.proofs.atan2.atan2.Tie as tie
 
-is-nan-requires : tie.Need-is-nan-requires
-is-nan-requires c κs = search needs
-
-is-nan-requires-2 : tie.Need-is-nan-requires-2
-is-nan-requires-2 c κs = search needs
-
-angle-requires : tie.Need-angle-requires
-angle-requires c κs = search needs
-
 returns : tie.Need-returns
 unfolding atan2
 returns c = simp (sym (c .before .is-nan .ensures) ∙ c .if1 .taken)
@@ -28,4 +19,4 @@ returns-3 c = simp (c .angle .ensures, sym (c .before .before .is-nan2 .ensures)
 pub atan2-spec : {M : Type 1} → statement M
 atan2-spec =
     tie.close
-    (tie.spec is-nan-requires is-nan-requires-2 angle-requires returns returns-2 returns-3)
+    (tie.spec (λ c κs. search needs) (λ c κs. search needs) (λ c κs. search needs) returns returns-2 returns-3)

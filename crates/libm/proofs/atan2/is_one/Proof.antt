@@ -3,12 +3,9 @@ use Rattle.libm.specs.Atan2.{isOne}
 use Rattle.libm.proofs.atan2.is_one.Statement.{statement}
 use Rattle.libm.proofs.atan2.is_one.Tie as tie
 
-bits-requires : tie.Need-bits-requires
-bits-requires c κs = search needs
-
 returns : tie.Need-returns
 unfolding isOne
 returns c = simp (← c .bits .ensures)
 
 pub is-one-spec : {M : Type 1} → statement M
-is-one-spec = tie.close (tie.spec bits-requires returns)
+is-one-spec = tie.close (tie.spec (λ c κs. search needs) returns)

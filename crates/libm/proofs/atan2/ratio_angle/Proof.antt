@@ -3,21 +3,6 @@ use Rattle.libm.specs.Atan2.{ratioAngle}
 use Rattle.libm.proofs.atan2.ratio_angle.Statement.{statement}
 use Rattle.libm.proofs.atan2.ratio_angle.Tie as tie
 
-sign-requires : tie.Need-sign-requires
-sign-requires c κs = search needs
-
-high-word-requires : tie.Need-high-word-requires
-high-word-requires c κs = search needs
-
-add-if1 : tie.Need-add-if1
-add-if1 c = search needs
-
-high-word-requires-2 : tie.Need-high-word-requires-2
-high-word-requires-2 c κs = search needs
-
-atan-size-requires : tie.Need-atan-size-requires
-atan-size-requires c κs = search needs
-
 returns : tie.Need-returns
 unfolding ratioAngle
 returns c = simp (c .if1 .taken, ← c .before .high-word2 .ensures, ← c .before .before .high-word .ensures, ← c .before .before .before .sign .ensures)
@@ -30,10 +15,10 @@ pub ratio-angle-spec : {M : Type 1} → statement M
 ratio-angle-spec =
     tie.close
     (tie.spec
-    sign-requires
-    high-word-requires
-    add-if1
-    high-word-requires-2
-    atan-size-requires
+    (λ c κs. search needs)
+    (λ c κs. search needs)
+    (λ c. search needs)
+    (λ c κs. search needs)
+    (λ c κs. search needs)
     returns
     returns-2)

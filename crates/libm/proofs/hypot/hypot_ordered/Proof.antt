@@ -5,24 +5,6 @@ use borrow.Author.Tests.{lt-ltb, le-ltb, eq-eqb, ne-eqb}
 use Rattle.libm.proofs.hypot.hypot_ordered.Statement.{statement}
 use Rattle.libm.proofs.hypot.hypot_ordered.Tie as tie
 
-of-bits-requires : tie.Need-of-bits-requires
-of-bits-requires c κs = search needs
-
-of-bits-requires-2 : tie.Need-of-bits-requires-2
-of-bits-requires-2 c κs = search needs
-
-add-if3 : tie.Need-add-if3
-add-if3 c = search needs
-
-scaled-requires : tie.Need-scaled-requires
-scaled-requires c κs = search needs
-
-scaled-requires-2 : tie.Need-scaled-requires-2
-scaled-requires-2 c κs = search needs
-
-scaled-requires-3 : tie.Need-scaled-requires-3
-scaled-requires-3 c κs = search needs
-
 returns : tie.Need-returns
 unfolding hypotOrdered
 returns c = simp (eq-eqb _ _ (c .if1 .taken), c .before .of-bits2 .ensures)
@@ -51,12 +33,12 @@ pub hypot-ordered-spec : {M : Type 1} → statement M
 hypot-ordered-spec =
     tie.close
     (tie.spec
-    of-bits-requires
-    of-bits-requires-2
-    add-if3
-    scaled-requires
-    scaled-requires-2
-    scaled-requires-3
+    (λ c κs. search needs)
+    (λ c κs. search needs)
+    (λ c. search needs)
+    (λ c κs. search needs)
+    (λ c κs. search needs)
+    (λ c κs. search needs)
     returns
     returns-2
     returns-3

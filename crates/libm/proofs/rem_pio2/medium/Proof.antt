@@ -8,18 +8,6 @@ use Rattle.libm.proofs.rem_pio2.medium.Tie as tie
 float-to-bits-quarter : tie.Need-float-to-bits-quarter
 float-to-bits-quarter c = tmp-no-nan (c .args .x) (c .pre)
 
-exponent-requires : tie.Need-exponent-requires
-exponent-requires c κs = search needs
-
-add-if1 : tie.Need-add-if1
-add-if1 c = search needs
-
-second-round-requires : tie.Need-second-round-requires
-second-round-requires c κs = search needs
-
-parted-requires : tie.Need-parted-requires
-parted-requires c κs = search needs
-
 returns : tie.Need-returns
 unfolding medium
 returns c = simp (c .second-round .ensures, gap-yes _ _ _ (c .before .if1 .taken), tmp-ends (c .before .before .before .args .x) (c .before .before .before .pre), ← c .before .before .exponent .ensures)
@@ -33,9 +21,9 @@ medium-spec =
     tie.close
     (tie.spec
     float-to-bits-quarter
-    exponent-requires
-    add-if1
-    second-round-requires
-    parted-requires
+    (λ c κs. search needs)
+    (λ c. search needs)
+    (λ c κs. search needs)
+    (λ c κs. search needs)
     returns
     returns-2)

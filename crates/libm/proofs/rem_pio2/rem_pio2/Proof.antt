@@ -4,18 +4,6 @@ use borrow.Author.Tests.{le-leb, lt-leb}
 use Rattle.libm.proofs.rem_pio2.rem_pio2.Statement.{statement}
 use Rattle.libm.proofs.rem_pio2.rem_pio2.Tie as tie
 
-high-word-requires : tie.Need-high-word-requires
-high-word-requires c κs = search needs
-
-to-five-requires : tie.Need-to-five-requires
-to-five-requires c κs = search needs
-
-to-nine-requires : tie.Need-to-nine-requires
-to-nine-requires c κs = search needs
-
-medium-requires : tie.Need-medium-requires
-medium-requires c κs = search needs
-
 returns : tie.Need-returns
 unfolding remPio2
 returns c = simp (c .to-five .ensures, le-leb _ _ (c .before .if1 .taken), ← c .before .before .high-word .ensures)
@@ -32,10 +20,10 @@ pub rem-pio2-spec : {M : Type 1} → statement M
 rem-pio2-spec =
     tie.close
     (tie.spec
-    high-word-requires
-    to-five-requires
-    to-nine-requires
-    medium-requires
+    (λ c κs. search needs)
+    (λ c κs. search needs)
+    (λ c κs. search needs)
+    (λ c κs. search needs)
     returns
     returns-2
     returns-3)

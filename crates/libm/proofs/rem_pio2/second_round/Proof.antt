@@ -4,18 +4,6 @@ use Rattle.libm.specs.RemPio2.{secondRound}
 use Rattle.libm.proofs.rem_pio2.second_round.Statement.{statement}
 use Rattle.libm.proofs.rem_pio2.second_round.Tie as tie
 
-exponent-requires : tie.Need-exponent-requires
-exponent-requires c κs = search needs
-
-add-if1 : tie.Need-add-if1
-add-if1 c = search needs
-
-third-round-requires : tie.Need-third-round-requires
-third-round-requires c κs = search needs
-
-parted-requires : tie.Need-parted-requires
-parted-requires c κs = search needs
-
 returns : tie.Need-returns
 unfolding secondRound
 returns c = simp (c .third-round .ensures, gap-yes _ _ _ (c .before .if1 .taken), ← c .before .before .exponent .ensures)
@@ -27,4 +15,4 @@ returns-2 c = simp (c .parted .ensures, gap-no _ _ _ (c .before .if1 .left), ←
 pub second-round-spec : {M : Type 1} → statement M
 second-round-spec =
     tie.close
-    (tie.spec exponent-requires add-if1 third-round-requires parted-requires returns returns-2)
+    (tie.spec (λ c κs. search needs) (λ c. search needs) (λ c κs. search needs) (λ c κs. search needs) returns returns-2)

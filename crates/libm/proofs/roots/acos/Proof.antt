@@ -6,30 +6,6 @@ use mathlib.Core.Path.{sym, _∙_}
 use Rattle.libm.proofs.roots.acos.Statement.{statement}
 use Rattle.libm.proofs.roots.acos.Tie as tie
 
-is-nan-requires : tie.Need-is-nan-requires
-is-nan-requires c κs = search needs
-
-acos-far-requires : tie.Need-acos-far-requires
-acos-far-requires c κs = search needs
-
-high-word-requires : tie.Need-high-word-requires
-high-word-requires c κs = search needs
-
-acos-far-requires-2 : tie.Need-acos-far-requires-2
-acos-far-requires-2 c κs = search needs
-
-acos-near-requires : tie.Need-acos-near-requires
-acos-near-requires c κs = search needs
-
-sign-requires : tie.Need-sign-requires
-sign-requires c κs = search needs
-
-acos-above-requires : tie.Need-acos-above-requires
-acos-above-requires c κs = search needs
-
-acos-below-requires : tie.Need-acos-below-requires
-acos-below-requires c κs = search needs
-
 returns : tie.Need-returns
 unfolding acos
 returns c = simp (c .acos-far .ensures, nan-high _ (sym (c .before .before .is-nan .ensures) ∙ c .before .if1 .taken))
@@ -54,14 +30,14 @@ pub acos-spec : {M : Type 1} → statement M
 acos-spec =
     tie.close
     (tie.spec
-    is-nan-requires
-    acos-far-requires
-    high-word-requires
-    acos-far-requires-2
-    acos-near-requires
-    sign-requires
-    acos-above-requires
-    acos-below-requires
+    (λ c κs. search needs)
+    (λ c κs. search needs)
+    (λ c κs. search needs)
+    (λ c κs. search needs)
+    (λ c κs. search needs)
+    (λ c κs. search needs)
+    (λ c κs. search needs)
+    (λ c κs. search needs)
     returns
     returns-2
     returns-3

@@ -4,18 +4,6 @@ use borrow.Author.Tests.{le-leb, lt-leb}
 use Rattle.libm.proofs.sincos.both_sines.Statement.{statement}
 use Rattle.libm.proofs.sincos.both_sines.Tie as tie
 
-high-word-requires : tie.Need-high-word-requires
-high-word-requires c κs = search needs
-
-small-sines-requires : tie.Need-small-sines-requires
-small-sines-requires c κs = search needs
-
-rem-pio2-requires : tie.Need-rem-pio2-requires
-rem-pio2-requires c κs = search needs
-
-turned-sines-requires : tie.Need-turned-sines-requires
-turned-sines-requires c κs = search needs
-
 returns : tie.Need-returns
 unfolding sines
 returns c = simp (c .small-sines .ensures, le-leb _ _ (c .before .if1 .taken), ← c .before .before .high-word .ensures)
@@ -28,9 +16,9 @@ pub both-sines-spec : {M : Type 1} → statement M
 both-sines-spec =
     tie.close
     (tie.spec
-    high-word-requires
-    small-sines-requires
-    rem-pio2-requires
-    turned-sines-requires
+    (λ c κs. search needs)
+    (λ c κs. search needs)
+    (λ c κs. search needs)
+    (λ c κs. search needs)
     returns
     returns-2)

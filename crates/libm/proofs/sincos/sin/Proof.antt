@@ -6,14 +6,8 @@ use mathlib.Core.Path.{sym, _∙_}
 use Rattle.libm.proofs.sincos.sin.Statement.{statement}
 use Rattle.libm.proofs.sincos.sin.Tie as tie
 
-is-within-requires : tie.Need-is-within-requires
-is-within-requires c κs = search needs
-
 sine-requires : tie.Need-sine-requires
 sine-requires c κs = yes (sym (c .before .is-within .ensures) ∙ c .if1 .taken)
-
-angle-refusal-requires : tie.Need-angle-refusal-requires
-angle-refusal-requires c κs = search needs
 
 returns : tie.Need-returns
 unfolding sineOrZero
@@ -25,4 +19,4 @@ returns-2 c = (c .angle-refusal .ensures, simp (sym (c .before .before .is-withi
 
 pub sin-spec : {M : Type 1} → statement M
 sin-spec =
-    tie.close (tie.spec is-within-requires sine-requires angle-refusal-requires returns returns-2)
+    tie.close (tie.spec (λ c κs. search needs) sine-requires (λ c κs. search needs) returns returns-2)

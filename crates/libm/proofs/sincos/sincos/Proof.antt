@@ -6,14 +6,8 @@ use mathlib.Core.Path.{sym, _∙_}
 use Rattle.libm.proofs.sincos.sincos.Statement.{statement}
 use Rattle.libm.proofs.sincos.sincos.Tie as tie
 
-is-within-requires : tie.Need-is-within-requires
-is-within-requires c κs = search needs
-
 both-sines-requires : tie.Need-both-sines-requires
 both-sines-requires c κs = yes (sym (c .before .is-within .ensures) ∙ c .if1 .taken)
-
-angle-refusal-requires : tie.Need-angle-refusal-requires
-angle-refusal-requires c κs = search needs
 
 returns : tie.Need-returns
 unfolding sinesOrZeros
@@ -32,4 +26,4 @@ returns-2 c = (
 pub sincos-spec : {M : Type 1} → statement M
 sincos-spec =
     tie.close
-    (tie.spec is-within-requires both-sines-requires angle-refusal-requires returns returns-2)
+    (tie.spec (λ c κs. search needs) both-sines-requires (λ c κs. search needs) returns returns-2)

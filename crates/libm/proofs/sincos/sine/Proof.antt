@@ -4,18 +4,6 @@ use borrow.Author.Tests.{le-leb, lt-leb}
 use Rattle.libm.proofs.sincos.sine.Statement.{statement}
 use Rattle.libm.proofs.sincos.sine.Tie as tie
 
-high-word-requires : tie.Need-high-word-requires
-high-word-requires c κs = search needs
-
-small-sine-requires : tie.Need-small-sine-requires
-small-sine-requires c κs = search needs
-
-rem-pio2-requires : tie.Need-rem-pio2-requires
-rem-pio2-requires c κs = search needs
-
-turned-sine-requires : tie.Need-turned-sine-requires
-turned-sine-requires c κs = search needs
-
 returns : tie.Need-returns
 unfolding sine
 returns c = simp (c .small-sine .ensures, le-leb _ _ (c .before .if1 .taken), ← c .before .before .high-word .ensures)
@@ -28,9 +16,9 @@ pub sine-spec : {M : Type 1} → statement M
 sine-spec =
     tie.close
     (tie.spec
-    high-word-requires
-    small-sine-requires
-    rem-pio2-requires
-    turned-sine-requires
+    (λ c κs. search needs)
+    (λ c κs. search needs)
+    (λ c κs. search needs)
+    (λ c κs. search needs)
     returns
     returns-2)

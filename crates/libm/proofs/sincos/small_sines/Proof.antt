@@ -3,12 +3,6 @@ use borrow.Author.Tests.{lt-ltb, le-ltb}
 use Rattle.libm.proofs.sincos.small_sines.Statement.{statement}
 use Rattle.libm.proofs.sincos.small_sines.Tie as tie
 
-k-sin0-requires : tie.Need-k-sin0-requires
-k-sin0-requires c κs = search needs
-
-k-cos-requires : tie.Need-k-cos-requires
-k-cos-requires c κs = search needs
-
 returns : tie.Need-returns
 returns c = simp (lt-ltb _ _ (c .if1 .taken))
 
@@ -16,4 +10,4 @@ returns-2 : tie.Need-returns-2
 returns-2 c = simp (c .k-cos .ensures, c .before .k-sin0 .ensures, le-ltb _ _ (c .before .before .if1 .left))
 
 pub small-sines-spec : {M : Type 1} → statement M
-small-sines-spec = tie.close (tie.spec k-sin0-requires k-cos-requires returns returns-2)
+small-sines-spec = tie.close (tie.spec (λ c κs. search needs) (λ c κs. search needs) returns returns-2)

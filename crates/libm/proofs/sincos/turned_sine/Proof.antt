@@ -5,18 +5,6 @@ use borrow.Author.Tests.{eq-eqb, ne-eqb}
 use Rattle.libm.proofs.sincos.turned_sine.Statement.{statement}
 use Rattle.libm.proofs.sincos.turned_sine.Tie as tie
 
-k-sin-requires : tie.Need-k-sin-requires
-k-sin-requires c κs = search needs
-
-k-cos-requires : tie.Need-k-cos-requires
-k-cos-requires c κs = search needs
-
-k-sin-requires-2 : tie.Need-k-sin-requires-2
-k-sin-requires-2 c κs = search needs
-
-k-cos-requires-2 : tie.Need-k-cos-requires-2
-k-cos-requires-2 c κs = search needs
-
 returns : tie.Need-returns
 unfolding turnedSine choose
 returns c = simp (c .k-sin .ensures, eq-eqb _ _ (c .before .if1 .taken))
@@ -37,10 +25,10 @@ pub turned-sine-spec : {M : Type 1} → statement M
 turned-sine-spec =
     tie.close
     (tie.spec
-    k-sin-requires
-    k-cos-requires
-    k-sin-requires-2
-    k-cos-requires-2
+    (λ c κs. search needs)
+    (λ c κs. search needs)
+    (λ c κs. search needs)
+    (λ c κs. search needs)
     returns
     returns-2
     returns-3

@@ -4,15 +4,6 @@ use Rattle.checked.specs.Laws.{rules as checked-rules}
 use Rattle.meets.proofs.quadratic.lesser.Statement.{statement}
 use Rattle.meets.proofs.quadratic.lesser.Tie as tie
 
-note-requires : tie.Need-note-requires
-note-requires c κs = search needs
-
-note-requires-2 : tie.Need-note-requires-2
-note-requires-2 c κs = search needs
-
-note-requires-3 : tie.Need-note-requires-3
-note-requires-3 c κs = search needs
-
 returns : tie.Need-returns
 unfolding lesserC
 returns c = (simp (c .note2 .ensures, c .before .note .ensures, c .before .before .before .before .if1 .taken, checked-rules), simp (c .before .before .before .before .if1 .taken))
@@ -22,4 +13,4 @@ unfolding lesserC
 returns-2 c = (simp (c .note3 .ensures, c .before .before .before .if1 .left, checked-rules), simp (c .before .before .before .if1 .left))
 
 pub lesser-spec : {M : Type 1} → statement M
-lesser-spec = tie.close (tie.spec note-requires note-requires-2 note-requires-3 returns returns-2)
+lesser-spec = tie.close (tie.spec (λ c κs. search needs) (λ c κs. search needs) (λ c κs. search needs) returns returns-2)

@@ -5,22 +5,10 @@ use mathlib.Core.Path.{sym, _∙_}
 use Rattle.meets.proofs.quadratic.other_pipe.Statement.{statement}
 use Rattle.meets.proofs.quadratic.other_pipe.Tie as tie
 
-cross-requires : tie.Need-cross-requires
-cross-requires c κs = search needs
-
-over-length-requires : tie.Need-over-length-requires
-over-length-requires c κs = search needs
-
-cross-requires-2 : tie.Need-cross-requires-2
-cross-requires-2 c κs = search needs
-
-noted-requires : tie.Need-noted-requires
-noted-requires c κs = search needs
-
 returns : tie.Need-returns
 unfolding otherC
 returns c = ((simp (c .noted .ensures, c .before .cross2 .ensures, c .before .before .before .over-length .ensures .0, c .before .before .before .over-length .ensures .1, c .before .before .before .before .cross .ensures)) ∙ sym (other-refusal (c .before .before .before .before .before .args .origin) (c .before .before .before .before .before .args .axis) (c .before .before .before .before .before .args .radius) (c .before .before .before .before .before .args .own)), simp (c .before .cross2 .ensures, c .before .before .before .over-length .ensures .1, c .before .before .before .before .cross .ensures))
 
 pub other-pipe-spec : {M : Type 1} → statement M
 other-pipe-spec =
-    tie.close (tie.spec cross-requires over-length-requires cross-requires-2 noted-requires returns)
+    tie.close (tie.spec (λ c κs. search needs) (λ c κs. search needs) (λ c κs. search needs) (λ c κs. search needs) returns)

@@ -6,18 +6,6 @@ use mathlib.Core.Path.{sym}
 use Rattle.motions.proofs.Rigid.apply_vector.Statement.{statement}
 use Rattle.motions.proofs.Rigid.apply_vector.Tie as tie
 
-are-within-requires : tie.Need-are-within-requires
-are-within-requires c κs = search needs
-
-fails-requires : tie.Need-fails-requires
-fails-requires c κs = search needs
-
-apply-vector-requires : tie.Need-apply-vector-requires
-apply-vector-requires c κs = search needs
-
-tried-requires : tie.Need-tried-requires
-tried-requires c κs = search needs
-
 returns : tie.Need-returns
 unfolding applyVectorDue
 returns c = simp (c .tried .ensures, c .before .apply-vector .ensures, c .before .before .if1 .taken, passing-none, ← c .before .before .before .fails .ensures, ← c .before .before .before .before .are-within .ensures, motions-rules)
@@ -30,9 +18,9 @@ pub apply-vector-spec : {M : Type 1} → statement M
 apply-vector-spec =
     tie.close
     (tie.spec
-    are-within-requires
-    fails-requires
-    apply-vector-requires
-    tried-requires
+    (λ c κs. search needs)
+    (λ c κs. search needs)
+    (λ c κs. search needs)
+    (λ c κs. search needs)
     returns
     returns-2)

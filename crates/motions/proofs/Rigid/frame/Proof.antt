@@ -5,15 +5,6 @@ use mathlib.Core.Path.{sym}
 use Rattle.motions.proofs.Rigid.frame.Statement.{statement}
 use Rattle.motions.proofs.Rigid.frame.Tie as tie
 
-is-within-frame-requires : tie.Need-is-within-frame-requires
-is-within-frame-requires c κs = search needs
-
-fails-requires : tie.Need-fails-requires
-fails-requires c κs = search needs
-
-frame-requires : tie.Need-frame-requires
-frame-requires c κs = search needs
-
 returns : tie.Need-returns
 unfolding frameDue
 returns c = simp (c .frame .ensures, c .before .if1 .taken, passing-none, ← c .before .before .fails .ensures, ← c .before .before .before .is-within-frame .ensures)
@@ -24,4 +15,4 @@ returns-2 c = simp (← c .before .fails .ensures, ← c .before .before .is-wit
 
 pub frame-spec : {M : Type 1} → statement M
 frame-spec =
-    tie.close (tie.spec is-within-frame-requires fails-requires frame-requires returns returns-2)
+    tie.close (tie.spec (λ c κs. search needs) (λ c κs. search needs) (λ c κs. search needs) returns returns-2)

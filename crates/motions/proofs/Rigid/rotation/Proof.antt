@@ -5,18 +5,6 @@ use mathlib.Core.Path.{sym}
 use Rattle.motions.proofs.Rigid.rotation.Statement.{statement}
 use Rattle.motions.proofs.Rigid.rotation.Tie as tie
 
-is-within-turn-requires : tie.Need-is-within-turn-requires
-is-within-turn-requires c κs = search needs
-
-fails-requires : tie.Need-fails-requires
-fails-requires c κs = search needs
-
-rotation-requires : tie.Need-rotation-requires
-rotation-requires c κs = search needs
-
-settle-requires : tie.Need-settle-requires
-settle-requires c κs = search needs
-
 returns : tie.Need-returns
 unfolding rotationDue
 returns c = simp (c .settle .ensures, c .before .rotation .ensures .0, c .before .rotation .ensures .1, c .before .before .if1 .taken, passing-none, ← c .before .before .before .fails .ensures, ← c .before .before .before .before .is-within-turn .ensures)
@@ -29,9 +17,9 @@ pub rotation-spec : {M : Type 1} → statement M
 rotation-spec =
     tie.close
     (tie.spec
-    is-within-turn-requires
-    fails-requires
-    rotation-requires
-    settle-requires
+    (λ c κs. search needs)
+    (λ c κs. search needs)
+    (λ c κs. search needs)
+    (λ c κs. search needs)
     returns
     returns-2)

@@ -6,18 +6,6 @@ use Rattle.motions.specs.Laws.{rules as motions-rules}
 use Rattle.motions.proofs.axes.moved.Statement.{statement}
 use Rattle.motions.proofs.axes.moved.Tie as tie
 
-apply-requires : tie.Need-apply-requires
-apply-requires c κs = search needs
-
-apply-vector-requires : tie.Need-apply-vector-requires
-apply-vector-requires c κs = search needs
-
-noted-requires : tie.Need-noted-requires
-noted-requires c κs = search needs
-
-noted-requires-2 : tie.Need-noted-requires-2
-noted-requires-2 c κs = search needs
-
 returns : tie.Need-returns
 unfolding movedC
 returns c = (simp (c .noted2 .ensures, c .before .noted .ensures, c .before .before .apply-vector .ensures, c .before .before .before .apply .ensures, checked-rules, vectors-rules, motions-rules), simp (c .before .before .apply-vector .ensures, c .before .before .before .apply .ensures))
@@ -25,4 +13,4 @@ returns c = (simp (c .noted2 .ensures, c .before .noted .ensures, c .before .bef
 pub moved-spec : {M : Type 1} → statement M
 moved-spec =
     tie.close
-    (tie.spec apply-requires apply-vector-requires noted-requires noted-requires-2 returns)
+    (tie.spec (λ c κs. search needs) (λ c κs. search needs) (λ c κs. search needs) (λ c κs. search needs) returns)

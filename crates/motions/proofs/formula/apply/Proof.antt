@@ -3,15 +3,9 @@ use Rattle.motions.specs.Motions.{applyC}
 use Rattle.motions.proofs.formula.apply.Statement.{statement}
 use Rattle.motions.proofs.formula.apply.Tie as tie
 
-apply-vector-requires : tie.Need-apply-vector-requires
-apply-vector-requires c κs = search needs
-
-plus-requires : tie.Need-plus-requires
-plus-requires c κs = search needs
-
 returns : tie.Need-returns
 unfolding applyC
 returns c = simp (c .plus .ensures, c .before .apply-vector .ensures)
 
 pub apply-spec : {M : Type 1} → statement M
-apply-spec = tie.close (tie.spec apply-vector-requires plus-requires returns)
+apply-spec = tie.close (tie.spec (λ c κs. search needs) (λ c κs. search needs) returns)

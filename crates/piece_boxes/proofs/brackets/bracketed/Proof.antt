@@ -5,33 +5,6 @@ use Rattle.piece_boxes.specs.BracketsLaws.{rules as windows-rules}
 use Rattle.piece_boxes.proofs.brackets.bracketed.Statement.{statement}
 use Rattle.piece_boxes.proofs.brackets.bracketed.Tie as tie
 
-agree-requires : tie.Need-agree-requires
-agree-requires c κs = search needs
-
-int-to-float-lo : tie.Need-int-to-float-lo
-int-to-float-lo c = search needs
-
-add-hi : tie.Need-add-hi
-add-hi c = search needs
-
-int-to-float-hi : tie.Need-int-to-float-hi
-int-to-float-hi c = search needs
-
-turning-requires : tie.Need-turning-requires
-turning-requires c κs = search needs
-
-note-requires : tie.Need-note-requires
-note-requires c κs = search needs
-
-note-requires-2 : tie.Need-note-requires-2
-note-requires-2 c κs = search needs
-
-earlier-requires : tie.Need-earlier-requires
-earlier-requires c κs = search needs
-
-widen-requires : tie.Need-widen-requires
-widen-requires c κs = search needs
-
 returns : tie.Need-returns
 unfolding bracketC
 returns c = (simp (c .if1 .taken, ← c .before .agree .ensures, checked-rules, windows-rules), simp (c .if1 .taken, ← c .before .agree .ensures))
@@ -44,14 +17,14 @@ pub bracketed-spec : {M : Type 1} → statement M
 bracketed-spec =
     tie.close
     (tie.spec
-    agree-requires
-    int-to-float-lo
-    add-hi
-    int-to-float-hi
-    turning-requires
-    note-requires
-    note-requires-2
-    earlier-requires
-    widen-requires
+    (λ c κs. search needs)
+    (λ c. search needs)
+    (λ c. search needs)
+    (λ c. search needs)
+    (λ c κs. search needs)
+    (λ c κs. search needs)
+    (λ c κs. search needs)
+    (λ c κs. search needs)
+    (λ c κs. search needs)
     returns
     returns-2)

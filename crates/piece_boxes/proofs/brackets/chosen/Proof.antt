@@ -3,9 +3,6 @@ use Rattle.piece_boxes.specs.Brackets.{chosen}
 use Rattle.piece_boxes.proofs.brackets.chosen.Statement.{statement}
 use Rattle.piece_boxes.proofs.brackets.chosen.Tie as tie
 
-agree-requires : tie.Need-agree-requires
-agree-requires c κs = search needs
-
 returns : tie.Need-returns
 unfolding chosen
 returns c = simp (c .if1 .taken, ← c .before .agree .ensures)
@@ -15,4 +12,4 @@ unfolding chosen
 returns-2 c = simp (c .if1 .left, ← c .before .agree .ensures)
 
 pub chosen-spec : {M : Type 1} → statement M
-chosen-spec = tie.close (tie.spec agree-requires returns returns-2)
+chosen-spec = tie.close (tie.spec (λ c κs. search needs) returns returns-2)

@@ -3,18 +3,6 @@ use Rattle.piece_boxes.specs.CurveBoxes.{ends}
 use Rattle.piece_boxes.proofs.curve_boxes.ends.Statement.{statement}
 use Rattle.piece_boxes.proofs.curve_boxes.ends.Tie as tie
 
-least-requires : tie.Need-least-requires
-least-requires c κs = search needs
-
-least-requires-2 : tie.Need-least-requires-2
-least-requires-2 c κs = search needs
-
-greatest-requires : tie.Need-greatest-requires
-greatest-requires c κs = search needs
-
-greatest-requires-2 : tie.Need-greatest-requires-2
-greatest-requires-2 c κs = search needs
-
 returns : tie.Need-returns
 unfolding ends
 returns c = simp (c .greatest2 .ensures, c .before .greatest .ensures, c .before .before .least2 .ensures, c .before .before .before .least .ensures)
@@ -23,8 +11,8 @@ pub ends-spec : {M : Type 1} → statement M
 ends-spec =
     tie.close
     (tie.spec
-    least-requires
-    least-requires-2
-    greatest-requires
-    greatest-requires-2
+    (λ c κs. search needs)
+    (λ c κs. search needs)
+    (λ c κs. search needs)
+    (λ c κs. search needs)
     returns)

@@ -3,30 +3,6 @@ use Rattle.piece_boxes.specs.CurveBoxes.{boxC}
 use Rattle.piece_boxes.proofs.curve_boxes.uv_box.Statement.{statement}
 use Rattle.piece_boxes.proofs.curve_boxes.uv_box.Tie as tie
 
-enum-told : tie.Need-enum-told
-enum-told c = search needs
-
-ends-requires : tie.Need-ends-requires
-ends-requires c κs = search needs
-
-enum-known-w : tie.Need-enum-known-w
-enum-known-w c = search needs
-
-arc-box-requires : tie.Need-arc-box-requires
-arc-box-requires c κs = search needs
-
-enum-known-w-2 : tie.Need-enum-known-w-2
-enum-known-w-2 c = search needs
-
-wave-box-requires : tie.Need-wave-box-requires
-wave-box-requires c κs = search needs
-
-enum-known-w-3 : tie.Need-enum-known-w-3
-enum-known-w-3 c = search needs
-
-meet-box-requires : tie.Need-meet-box-requires
-meet-box-requires c κs = search needs
-
 returns : tie.Need-returns
 unfolding boxC
 returns c = (simp (c .before .enum-told .given .1), simp (c .ends .ensures, c .before .enum-told .given .1))
@@ -47,14 +23,14 @@ pub uv-box-spec : {M : Type 1} → statement M
 uv-box-spec =
     tie.close
     (tie.spec
-    enum-told
-    ends-requires
-    enum-known-w
-    arc-box-requires
-    enum-known-w-2
-    wave-box-requires
-    enum-known-w-3
-    meet-box-requires
+    (λ c. search needs)
+    (λ c κs. search needs)
+    (λ c. search needs)
+    (λ c κs. search needs)
+    (λ c. search needs)
+    (λ c κs. search needs)
+    (λ c. search needs)
+    (λ c κs. search needs)
     returns
     returns-2
     returns-3

@@ -4,15 +4,6 @@ use Rattle.checked.specs.Laws.{rules as checked-rules}
 use Rattle.piece_boxes.proofs.curve_boxes.wave_box.Statement.{statement}
 use Rattle.piece_boxes.proofs.curve_boxes.wave_box.Tie as tie
 
-range-requires : tie.Need-range-requires
-range-requires c κs = search needs
-
-least-requires : tie.Need-least-requires
-least-requires c κs = search needs
-
-greatest-requires : tie.Need-greatest-requires
-greatest-requires c κs = search needs
-
 returns : tie.Need-returns
 unfolding waveC
 returns c = (simp (c .before .before .range .ensures .0, checked-rules), simp (c .greatest .ensures, c .before .least .ensures, c .before .before .range .ensures .1))
@@ -21,7 +12,7 @@ pub wave-box-spec : {M : Type 1} → statement M
 wave-box-spec =
     tie.close
     (tie.spec
-    range-requires
-    least-requires
-    greatest-requires
+    (λ c κs. search needs)
+    (λ c κs. search needs)
+    (λ c κs. search needs)
     returns)

@@ -7,24 +7,6 @@ use mathlib.Core.Path.{sym, _∙_}
 use Rattle.piece_boxes.proofs.meet_boxes.end.Statement.{statement}
 use Rattle.piece_boxes.proofs.meet_boxes.end.Tie as tie
 
-is-end-requires : tie.Need-is-end-requires
-is-end-requires c κs = search needs
-
-int-to-float-t : tie.Need-int-to-float-t
-int-to-float-t c = search needs
-
-point-requires : tie.Need-point-requires
-point-requires c κs = search needs
-
-note-requires : tie.Need-note-requires
-note-requires c κs = search needs
-
-earlier-requires : tie.Need-earlier-requires
-earlier-requires c κs = search needs
-
-widen-requires : tie.Need-widen-requires
-widen-requires c κs = search needs
-
 returns : tie.Need-returns
 unfolding endC
 returns c = (simp (c .before .earlier .ensures, c .before .before .note .ensures, c .before .before .before .before .point .ensures .0, sym (c .before .before .before .before .before .before .before .is-end .ensures) ∙ c .before .before .before .before .before .before .if1 .taken, checked-rules, windows-rules, meet_boxes-rules), simp (c .widen .ensures, c .before .before .before .before .point .ensures .1, sym (c .before .before .before .before .before .before .before .is-end .ensures) ∙ c .before .before .before .before .before .before .if1 .taken))
@@ -37,11 +19,11 @@ pub end-spec : {M : Type 1} → statement M
 end-spec =
     tie.close
     (tie.spec
-    is-end-requires
-    int-to-float-t
-    point-requires
-    note-requires
-    earlier-requires
-    widen-requires
+    (λ c κs. search needs)
+    (λ c. search needs)
+    (λ c κs. search needs)
+    (λ c κs. search needs)
+    (λ c κs. search needs)
+    (λ c κs. search needs)
     returns
     returns-2)

@@ -4,18 +4,9 @@ use Rattle.piece_boxes.specs.MeetBoxesLaws.{rules as meet_boxes-rules}
 use Rattle.piece_boxes.proofs.meet_boxes.meet_box.Statement.{statement}
 use Rattle.piece_boxes.proofs.meet_boxes.meet_box.Tie as tie
 
-sampled-requires : tie.Need-sampled-requires
-sampled-requires c κs = search needs
-
-spanned-requires : tie.Need-spanned-requires
-spanned-requires c κs = search needs
-
-earlier-requires : tie.Need-earlier-requires
-earlier-requires c κs = search needs
-
 returns : tie.Need-returns
 unfolding boxC
 returns c = (simp (c .earlier .ensures, c .before .before .spanned .ensures .0, c .before .before .before .before .before .before .before .before .sampled .ensures .0, c .before .before .before .before .before .before .before .before .sampled .ensures .1 .0, c .before .before .before .before .before .before .before .before .sampled .ensures .1 .1, meet_boxes-rules), simp (c .before .before .spanned .ensures .1, c .before .before .before .before .before .before .before .before .sampled .ensures .1 .0, c .before .before .before .before .before .before .before .before .sampled .ensures .1 .1))
 
 pub meet-box-spec : {M : Type 1} → statement M
-meet-box-spec = tie.close (tie.spec sampled-requires spanned-requires earlier-requires returns)
+meet-box-spec = tie.close (tie.spec (λ c κs. search needs) (λ c κs. search needs) (λ c κs. search needs) returns)

@@ -5,12 +5,6 @@ use Rattle.boxes.specs.Laws.{widened-append}
 use Rattle.piece_boxes.proofs.space_boxes.with_end_arcs.Statement.{statement}
 use Rattle.piece_boxes.proofs.space_boxes.with_end_arcs.Tie as tie
 
-with-end-arc-requires : tie.Need-with-end-arc-requires
-with-end-arc-requires c κs = search needs
-
-with-end-arc-requires-2 : tie.Need-with-end-arc-requires-2
-with-end-arc-requires-2 c κs = search needs
-
 returns : tie.Need-returns
 unfolding endArcsC
 returns c = (simp (c .with-end-arc2 .ensures .0, c .before .with-end-arc .ensures .0, checked-rules), simp (c .with-end-arc2 .ensures .1, c .before .with-end-arc .ensures .1, widened-append))
@@ -19,6 +13,6 @@ pub with-end-arcs-spec : {M : Type 1} → statement M
 with-end-arcs-spec =
     tie.close
     (tie.spec
-    with-end-arc-requires
-    with-end-arc-requires-2
+    (λ c κs. search needs)
+    (λ c κs. search needs)
     returns)

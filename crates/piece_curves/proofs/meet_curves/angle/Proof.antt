@@ -3,12 +3,6 @@ use Rattle.piece_curves.specs.MeetCurves.{angleC}
 use Rattle.piece_curves.proofs.meet_curves.angle.Statement.{statement}
 use Rattle.piece_curves.proofs.meet_curves.angle.Tie as tie
 
-enum-told : tie.Need-enum-told
-enum-told c = search needs
-
-enum-known-k : tie.Need-enum-known-k
-enum-known-k c = search needs
-
 returns : tie.Need-returns
 unfolding angleC
 returns c = simp (c .before .before .before .enum-told .given .1)
@@ -18,4 +12,4 @@ unfolding angleC
 returns-2 c = simp (c .before .k .given .1)
 
 pub angle-spec : {M : Type 1} → statement M
-angle-spec = tie.close (tie.spec enum-told enum-known-k returns returns-2)
+angle-spec = tie.close (tie.spec (λ c. search needs) (λ c. search needs) returns returns-2)

@@ -4,18 +4,6 @@ use borrow.Author.Needs.{needs}
 use Rattle.piece_curves.proofs.meet_curves.motion.Statement.{statement}
 use Rattle.piece_curves.proofs.meet_curves.motion.Tie as tie
 
-moved-requires : tie.Need-moved-requires
-moved-requires c κs = search needs
-
-enum-told : tie.Need-enum-told
-enum-told c = search needs
-
-note-requires : tie.Need-note-requires
-note-requires c κs = search needs
-
-enum-told-2 : tie.Need-enum-told-2
-enum-told-2 c = search needs
-
 returns : tie.Need-returns
 unfolding slopeUC
 returns c = (simp (c .note .ensures, c .before .before .before .enum-told .given .1, checked-rules), (simp (c .before .before .before .enum-told .given .1), c .before .before .before .before .before .moved .ensures .1 .1))
@@ -26,4 +14,4 @@ returns-2 c = (simp (c .before .before .moved .ensures .0, c .enum-told2 .given 
 
 pub motion-spec : {M : Type 1} → statement M
 motion-spec =
-    tie.close (tie.spec moved-requires enum-told note-requires enum-told-2 returns returns-2)
+    tie.close (tie.spec (λ c κs. search needs) (λ c. search needs) (λ c κs. search needs) (λ c. search needs) returns returns-2)

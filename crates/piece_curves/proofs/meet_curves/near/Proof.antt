@@ -3,12 +3,6 @@ use Rattle.piece_curves.specs.MeetCurves.{nearC}
 use Rattle.piece_curves.proofs.meet_curves.near.Statement.{statement}
 use Rattle.piece_curves.proofs.meet_curves.near.Tie as tie
 
-atan2-requires : tie.Need-atan2-requires
-atan2-requires c κs = search needs
-
-round-requires : tie.Need-round-requires
-round-requires c κs = search needs
-
 returns : tie.Need-returns
 unfolding nearC
 returns c = simp (c .round .ensures, c .before .before .before .atan2 .ensures)
@@ -17,6 +11,6 @@ pub near-spec : {M : Type 1} → statement M
 near-spec =
     tie.close
     (tie.spec
-    atan2-requires
-    round-requires
+    (λ c κs. search needs)
+    (λ c κs. search needs)
     returns)

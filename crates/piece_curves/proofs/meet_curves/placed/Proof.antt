@@ -5,24 +5,6 @@ use Rattle.piece_curves.specs.MeetCurvesLaws.{rules as courses-rules}
 use Rattle.piece_curves.proofs.meet_curves.placed.Statement.{statement}
 use Rattle.piece_curves.proofs.meet_curves.placed.Tie as tie
 
-enum-told : tie.Need-enum-told
-enum-told c = search needs
-
-note-requires : tie.Need-note-requires
-note-requires c κs = search needs
-
-enum-told-2 : tie.Need-enum-told-2
-enum-told-2 c = search needs
-
-near-requires : tie.Need-near-requires
-near-requires c κs = search needs
-
-noted-requires : tie.Need-noted-requires
-noted-requires c κs = search needs
-
-note-requires-2 : tie.Need-note-requires-2
-note-requires-2 c κs = search needs
-
 returns : tie.Need-returns
 unfolding placedC
 returns c = (simp (c .note .ensures, c .before .before .before .enum-told .given .1, checked-rules), simp (c .before .before .before .enum-told .given .1))
@@ -35,11 +17,11 @@ pub placed-spec : {M : Type 1} → statement M
 placed-spec =
     tie.close
     (tie.spec
-    enum-told
-    note-requires
-    enum-told-2
-    near-requires
-    noted-requires
-    note-requires-2
+    (λ c. search needs)
+    (λ c κs. search needs)
+    (λ c. search needs)
+    (λ c κs. search needs)
+    (λ c κs. search needs)
+    (λ c κs. search needs)
     returns
     returns-2)

@@ -3,12 +3,6 @@ use Rattle.piece_curves.specs.MeetCurves.{rateC}
 use Rattle.piece_curves.proofs.meet_curves.rate.Statement.{statement}
 use Rattle.piece_curves.proofs.meet_curves.rate.Tie as tie
 
-enum-told : tie.Need-enum-told
-enum-told c = search needs
-
-enum-known-t : tie.Need-enum-known-t
-enum-known-t c = search needs
-
 returns : tie.Need-returns
 unfolding rateC
 returns c = simp (c .before .before .enum-told .given .1)
@@ -18,4 +12,4 @@ unfolding rateC
 returns-2 c = simp (c .before .t .given .1)
 
 pub rate-spec : {M : Type 1} → statement M
-rate-spec = tie.close (tie.spec enum-told enum-known-t returns returns-2)
+rate-spec = tie.close (tie.spec (λ c. search needs) (λ c. search needs) returns returns-2)

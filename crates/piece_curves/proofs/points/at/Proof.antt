@@ -4,30 +4,6 @@ use Rattle.checked.specs.Laws.{rules as checked-rules}
 use Rattle.piece_curves.proofs.points.at.Statement.{statement}
 use Rattle.piece_curves.proofs.points.at.Tie as tie
 
-enum-told : tie.Need-enum-told
-enum-told c = search needs
-
-straight-at-requires : tie.Need-straight-at-requires
-straight-at-requires c κs = search needs
-
-enum-known-w : tie.Need-enum-known-w
-enum-known-w c = search needs
-
-arc-at-requires : tie.Need-arc-at-requires
-arc-at-requires c κs = search needs
-
-enum-known-w-2 : tie.Need-enum-known-w-2
-enum-known-w-2 c = search needs
-
-wave-at-requires : tie.Need-wave-at-requires
-wave-at-requires c κs = search needs
-
-enum-known-w-3 : tie.Need-enum-known-w-3
-enum-known-w-3 c = search needs
-
-at-requires : tie.Need-at-requires
-at-requires c κs = search needs
-
 returns : tie.Need-returns
 unfolding atC
 returns c = (simp (c .straight-at .ensures .0, c .straight-at .ensures .1, c .before .enum-told .given .1, checked-rules), simp (c .straight-at .ensures .1, c .before .enum-told .given .1))
@@ -48,14 +24,14 @@ pub at-spec : {M : Type 1} → statement M
 at-spec =
     tie.close
     (tie.spec
-    enum-told
-    straight-at-requires
-    enum-known-w
-    arc-at-requires
-    enum-known-w-2
-    wave-at-requires
-    enum-known-w-3
-    at-requires
+    (λ c. search needs)
+    (λ c κs. search needs)
+    (λ c. search needs)
+    (λ c κs. search needs)
+    (λ c. search needs)
+    (λ c κs. search needs)
+    (λ c. search needs)
+    (λ c κs. search needs)
     returns
     returns-2
     returns-3

@@ -6,18 +6,6 @@ use mathlib.Core.Path.{sym, _∙_, refl}
 use Rattle.piece_curves.proofs.points.straight_at.Statement.{statement}
 use Rattle.piece_curves.proofs.points.straight_at.Tie as tie
 
-note-requires : tie.Need-note-requires
-note-requires c κs = search needs
-
-note-requires-2 : tie.Need-note-requires-2
-note-requires-2 c κs = search needs
-
-note-requires-3 : tie.Need-note-requires-3
-note-requires-3 c κs = search needs
-
-note-requires-4 : tie.Need-note-requires-4
-note-requires-4 c κs = search needs
-
 returns : tie.Need-returns
 unfolding straightC
 returns c = ((simp (c .note4 .ensures, c .before .note3 .ensures, c .before .before .note2 .ensures, c .before .before .before .note .ensures, first-assoc, zero-first)) ∙ sym (straight-refusal (c .before .before .before .before .before .before .before .before .before .before .args .from) (c .before .before .before .before .before .before .before .before .before .before .args .to) (c .before .before .before .before .before .before .before .before .before .before .args .t)), refl)
@@ -26,8 +14,8 @@ pub straight-at-spec : {M : Type 1} → statement M
 straight-at-spec =
     tie.close
     (tie.spec
-    note-requires
-    note-requires-2
-    note-requires-3
-    note-requires-4
+    (λ c κs. search needs)
+    (λ c κs. search needs)
+    (λ c κs. search needs)
+    (λ c κs. search needs)
     returns)

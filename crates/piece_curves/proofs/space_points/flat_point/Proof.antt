@@ -3,30 +3,6 @@ use Rattle.piece_curves.specs.SpacePoints.{flatC}
 use Rattle.piece_curves.proofs.space_points.flat_point.Statement.{statement}
 use Rattle.piece_curves.proofs.space_points.flat_point.Tie as tie
 
-enum-told : tie.Need-enum-told
-enum-told c = search needs
-
-straight-point-requires : tie.Need-straight-point-requires
-straight-point-requires c κs = search needs
-
-enum-known-w : tie.Need-enum-known-w
-enum-known-w c = search needs
-
-arc-point-requires : tie.Need-arc-point-requires
-arc-point-requires c κs = search needs
-
-enum-known-w-2 : tie.Need-enum-known-w-2
-enum-known-w-2 c = search needs
-
-wave-point-requires : tie.Need-wave-point-requires
-wave-point-requires c κs = search needs
-
-enum-known-w-3 : tie.Need-enum-known-w-3
-enum-known-w-3 c = search needs
-
-point-requires : tie.Need-point-requires
-point-requires c κs = search needs
-
 returns : tie.Need-returns
 unfolding flatC
 returns c = (simp (c .straight-point .ensures .0, c .before .enum-told .given .1), simp (c .straight-point .ensures .1, c .before .enum-told .given .1))
@@ -47,14 +23,14 @@ pub flat-point-spec : {M : Type 1} → statement M
 flat-point-spec =
     tie.close
     (tie.spec
-    enum-told
-    straight-point-requires
-    enum-known-w
-    arc-point-requires
-    enum-known-w-2
-    wave-point-requires
-    enum-known-w-3
-    point-requires
+    (λ c. search needs)
+    (λ c κs. search needs)
+    (λ c. search needs)
+    (λ c κs. search needs)
+    (λ c. search needs)
+    (λ c κs. search needs)
+    (λ c. search needs)
+    (λ c κs. search needs)
     returns
     returns-2
     returns-3

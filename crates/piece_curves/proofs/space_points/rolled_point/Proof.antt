@@ -3,15 +3,6 @@ use Rattle.piece_curves.specs.SpacePoints.{rolledC}
 use Rattle.piece_curves.proofs.space_points.rolled_point.Statement.{statement}
 use Rattle.piece_curves.proofs.space_points.rolled_point.Tie as tie
 
-flat-point-requires : tie.Need-flat-point-requires
-flat-point-requires c κs = search needs
-
-point-requires : tie.Need-point-requires
-point-requires c κs = search needs
-
-earlier-requires : tie.Need-earlier-requires
-earlier-requires c κs = search needs
-
 returns : tie.Need-returns
 unfolding rolledC
 returns c =
@@ -23,7 +14,7 @@ pub rolled-point-spec : {M : Type 1} → statement M
 rolled-point-spec =
     tie.close
     (tie.spec
-    flat-point-requires
-    point-requires
-    earlier-requires
+    (λ c κs. search needs)
+    (λ c κs. search needs)
+    (λ c κs. search needs)
     returns)

@@ -5,24 +5,6 @@ use Rattle.piece_lengths.specs.CountsLaws.{rules as run_counts-rules}
 use Rattle.piece_lengths.proofs.counts.meet_line.Statement.{statement}
 use Rattle.piece_lengths.proofs.counts.meet_line.Tie as tie
 
-bend-of-requires : tie.Need-bend-of-requires
-bend-of-requires c κs = search needs
-
-sqrt-requires : tie.Need-sqrt-requires
-sqrt-requires c κs = search needs
-
-count-requires : tie.Need-count-requires
-count-requires c κs = search needs
-
-note-requires : tie.Need-note-requires
-note-requires c κs = search needs
-
-note-requires-2 : tie.Need-note-requires-2
-note-requires-2 c κs = search needs
-
-earlier-requires : tie.Need-earlier-requires
-earlier-requires c κs = search needs
-
 returns : tie.Need-returns
 unfolding meetLineC
 returns c = (simp (c .earlier .ensures, c .before .note2 .ensures, c .before .before .note .ensures, c .before .before .before .count .ensures .0, c .before .before .before .before .sqrt .ensures, c .before .before .before .before .before .before .bend-of .ensures .0, c .before .before .before .before .before .before .bend-of .ensures .1, checked-rules, run_counts-rules), simp (c .before .before .before .count .ensures .1, c .before .before .before .before .sqrt .ensures, c .before .before .before .before .before .before .bend-of .ensures .1))
@@ -31,10 +13,10 @@ pub meet-line-spec : {M : Type 1} → statement M
 meet-line-spec =
     tie.close
     (tie.spec
-    bend-of-requires
-    sqrt-requires
-    count-requires
-    note-requires
-    note-requires-2
-    earlier-requires
+    (λ c κs. search needs)
+    (λ c κs. search needs)
+    (λ c κs. search needs)
+    (λ c κs. search needs)
+    (λ c κs. search needs)
+    (λ c κs. search needs)
     returns)

@@ -3,24 +3,6 @@ use Rattle.piece_lengths.specs.Counts.{ownTurnC}
 use Rattle.piece_lengths.proofs.counts.own_turn.Statement.{statement}
 use Rattle.piece_lengths.proofs.counts.own_turn.Tie as tie
 
-enum-told : tie.Need-enum-told
-enum-told c = search needs
-
-per-turn-requires : tie.Need-per-turn-requires
-per-turn-requires c κs = search needs
-
-enum-told-2 : tie.Need-enum-told-2
-enum-told-2 c = search needs
-
-per-turn-requires-2 : tie.Need-per-turn-requires-2
-per-turn-requires-2 c κs = search needs
-
-enum-told-3 : tie.Need-enum-told-3
-enum-told-3 c = search needs
-
-enum-told-4 : tie.Need-enum-told-4
-enum-told-4 c = search needs
-
 returns : tie.Need-returns
 unfolding ownTurnC
 returns c = (simp (c .per-turn .ensures .0, c .before .enum-told .given .1), simp (c .per-turn .ensures .1, c .before .enum-told .given .1))
@@ -41,12 +23,12 @@ pub own-turn-spec : {M : Type 1} → statement M
 own-turn-spec =
     tie.close
     (tie.spec
-    enum-told
-    per-turn-requires
-    enum-told-2
-    per-turn-requires-2
-    enum-told-3
-    enum-told-4
+    (λ c. search needs)
+    (λ c κs. search needs)
+    (λ c. search needs)
+    (λ c κs. search needs)
+    (λ c. search needs)
+    (λ c. search needs)
     returns
     returns-2
     returns-3

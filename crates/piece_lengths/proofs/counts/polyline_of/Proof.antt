@@ -3,24 +3,6 @@ use Rattle.piece_lengths.specs.Counts.{polylineC}
 use Rattle.piece_lengths.proofs.counts.polyline_of.Statement.{statement}
 use Rattle.piece_lengths.proofs.counts.polyline_of.Tie as tie
 
-enum-told : tie.Need-enum-told
-enum-told c = search needs
-
-enum-told-2 : tie.Need-enum-told-2
-enum-told-2 c = search needs
-
-enum-known-w : tie.Need-enum-known-w
-enum-known-w c = search needs
-
-wave-line-requires : tie.Need-wave-line-requires
-wave-line-requires c κs = search needs
-
-enum-known-w-2 : tie.Need-enum-known-w-2
-enum-known-w-2 c = search needs
-
-meet-line-requires : tie.Need-meet-line-requires
-meet-line-requires c κs = search needs
-
 returns : tie.Need-returns
 unfolding polylineC
 returns c = (simp (c .enum-told .given .1), simp (c .enum-told .given .1))
@@ -41,12 +23,12 @@ pub polyline-of-spec : {M : Type 1} → statement M
 polyline-of-spec =
     tie.close
     (tie.spec
-    enum-told
-    enum-told-2
-    enum-known-w
-    wave-line-requires
-    enum-known-w-2
-    meet-line-requires
+    (λ c. search needs)
+    (λ c. search needs)
+    (λ c. search needs)
+    (λ c κs. search needs)
+    (λ c. search needs)
+    (λ c κs. search needs)
     returns
     returns-2
     returns-3

@@ -3,12 +3,6 @@ use Rattle.piece_lengths.specs.Counts.{steepC}
 use Rattle.piece_lengths.proofs.counts.steep.Statement.{statement}
 use Rattle.piece_lengths.proofs.counts.steep.Tie as tie
 
-fabs-requires : tie.Need-fabs-requires
-fabs-requires c κs = search needs
-
-sqrt-requires : tie.Need-sqrt-requires
-sqrt-requires c κs = search needs
-
 returns : tie.Need-returns
 unfolding steepC
 returns c = simp (c .sqrt .ensures, c .before .fabs .ensures)
@@ -17,6 +11,6 @@ pub steep-spec : {M : Type 1} → statement M
 steep-spec =
     tie.close
     (tie.spec
-    fabs-requires
-    sqrt-requires
+    (λ c κs. search needs)
+    (λ c κs. search needs)
     returns)

@@ -6,18 +6,6 @@ use mathlib.Core.Path.{sym, _∙_}
 use Rattle.piece_lengths.proofs.measures.distance.Statement.{statement}
 use Rattle.piece_lengths.proofs.measures.distance.Tie as tie
 
-hypot-requires : tie.Need-hypot-requires
-hypot-requires c κs = search needs
-
-note-requires : tie.Need-note-requires
-note-requires c κs = search needs
-
-note-requires-2 : tie.Need-note-requires-2
-note-requires-2 c κs = search needs
-
-note-requires-3 : tie.Need-note-requires-3
-note-requires-3 c κs = search needs
-
 returns : tie.Need-returns
 unfolding distanceC
 returns c = ((simp (c .note3 .ensures, c .before .note2 .ensures, c .before .before .note .ensures, c .before .before .before .hypot .ensures, first-assoc, zero-first)) ∙ sym (distance-refusal (c .before .before .before .before .before .before .before .before .args .a) (c .before .before .before .before .before .before .before .before .args .b)), simp (c .before .before .before .hypot .ensures))
@@ -26,8 +14,8 @@ pub distance-spec : {M : Type 1} → statement M
 distance-spec =
     tie.close
     (tie.spec
-    hypot-requires
-    note-requires
-    note-requires-2
-    note-requires-3
+    (λ c κs. search needs)
+    (λ c κs. search needs)
+    (λ c κs. search needs)
+    (λ c κs. search needs)
     returns)

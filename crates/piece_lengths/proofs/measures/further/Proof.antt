@@ -6,24 +6,6 @@ use mathlib.Core.Path.{sym, _∙_}
 use Rattle.piece_lengths.proofs.measures.further.Statement.{statement}
 use Rattle.piece_lengths.proofs.measures.further.Tie as tie
 
-atan2-requires : tie.Need-atan2-requires
-atan2-requires c κs = search needs
-
-fabs-requires : tie.Need-fabs-requires
-fabs-requires c κs = search needs
-
-note-requires : tie.Need-note-requires
-note-requires c κs = search needs
-
-note-requires-2 : tie.Need-note-requires-2
-note-requires-2 c κs = search needs
-
-note-requires-3 : tie.Need-note-requires-3
-note-requires-3 c κs = search needs
-
-note-requires-4 : tie.Need-note-requires-4
-note-requires-4 c κs = search needs
-
 returns : tie.Need-returns
 unfolding furtherC
 returns c = ((simp (c .note4 .ensures, c .before .note3 .ensures, c .before .before .note2 .ensures, c .before .before .before .note .ensures, c .before .before .before .before .fabs .ensures, c .before .before .before .before .before .atan2 .ensures, first-assoc, zero-first)) ∙ sym (further-refusal (c .before .before .before .before .before .before .before .before .before .before .before .before .before .before .args .s) (c .before .before .before .before .before .before .before .before .before .before .before .before .before .before .args .u) (c .before .before .before .before .before .before .before .before .before .before .before .before .before .before .args .v)), simp (c .before .before .before .before .fabs .ensures, c .before .before .before .before .before .atan2 .ensures))
@@ -32,10 +14,10 @@ pub further-spec : {M : Type 1} → statement M
 further-spec =
     tie.close
     (tie.spec
-    atan2-requires
-    fabs-requires
-    note-requires
-    note-requires-2
-    note-requires-3
-    note-requires-4
+    (λ c κs. search needs)
+    (λ c κs. search needs)
+    (λ c κs. search needs)
+    (λ c κs. search needs)
+    (λ c κs. search needs)
+    (λ c κs. search needs)
     returns)

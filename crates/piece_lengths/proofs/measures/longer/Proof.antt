@@ -5,12 +5,6 @@ use mathlib.Core.Path.{sym, _∙_}
 use Rattle.piece_lengths.proofs.measures.longer.Statement.{statement}
 use Rattle.piece_lengths.proofs.measures.longer.Tie as tie
 
-distance-requires : tie.Need-distance-requires
-distance-requires c κs = search needs
-
-note-requires : tie.Need-note-requires
-note-requires c κs = search needs
-
 returns : tie.Need-returns
 unfolding longerC
 returns c = ((simp (c .note .ensures, c .before .before .distance .ensures .0, c .before .before .distance .ensures .1)) ∙ sym (longer-refusal (c .before .before .before .args .s) (c .before .before .before .args .a) (c .before .before .before .args .b)), simp (c .before .before .distance .ensures .1))
@@ -19,6 +13,6 @@ pub longer-spec : {M : Type 1} → statement M
 longer-spec =
     tie.close
     (tie.spec
-    distance-requires
-    note-requires
+    (λ c κs. search needs)
+    (λ c κs. search needs)
     returns)

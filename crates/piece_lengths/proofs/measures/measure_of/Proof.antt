@@ -7,30 +7,6 @@ use Rattle.piece_lengths.specs.MeasuresLaws.{wave-known, meet-known}
 use Rattle.piece_lengths.proofs.measures.measure_of.Statement.{statement}
 use Rattle.piece_lengths.proofs.measures.measure_of.Tie as tie
 
-enum-told : tie.Need-enum-told
-enum-told c = search needs
-
-segment-requires : tie.Need-segment-requires
-segment-requires c κs = search needs
-
-enum-known-w : tie.Need-enum-known-w
-enum-known-w c = search needs
-
-arc-measure-requires : tie.Need-arc-measure-requires
-arc-measure-requires c κs = search needs
-
-enum-known-w-2 : tie.Need-enum-known-w-2
-enum-known-w-2 c = search needs
-
-wave-traced-requires : tie.Need-wave-traced-requires
-wave-traced-requires c κs = search needs
-
-enum-known-w-3 : tie.Need-enum-known-w-3
-enum-known-w-3 c = search needs
-
-meet-traced-requires : tie.Need-meet-traced-requires
-meet-traced-requires c κs = search needs
-
 returns : tie.Need-returns
 unfolding measureC
 returns c = (simp (c .segment .ensures .0, c .before .enum-told .given .1), simp (c .segment .ensures .1, c .before .enum-told .given .1))
@@ -53,14 +29,14 @@ pub measure-of-spec : {M : Type 1} → statement M
 measure-of-spec =
     tie.close
     (tie.spec
-    enum-told
-    segment-requires
-    enum-known-w
-    arc-measure-requires
-    enum-known-w-2
-    wave-traced-requires
-    enum-known-w-3
-    meet-traced-requires
+    (λ c. search needs)
+    (λ c κs. search needs)
+    (λ c. search needs)
+    (λ c κs. search needs)
+    (λ c. search needs)
+    (λ c κs. search needs)
+    (λ c. search needs)
+    (λ c κs. search needs)
     returns
     returns-2
     returns-3

@@ -4,9 +4,6 @@ use Rattle.checked.specs.Laws.{rules as checked-rules}
 use Rattle.piece_lengths.proofs.measures.segment.Statement.{statement}
 use Rattle.piece_lengths.proofs.measures.segment.Tie as tie
 
-distance-requires : tie.Need-distance-requires
-distance-requires c κs = search needs
-
 returns : tie.Need-returns
 unfolding segmentC
 returns c = (simp (c .distance .ensures .0, checked-rules), simp (c .distance .ensures .1))
@@ -15,5 +12,5 @@ pub segment-spec : {M : Type 1} → statement M
 segment-spec =
     tie.close
     (tie.spec
-    distance-requires
+    (λ c κs. search needs)
     returns)

@@ -6,12 +6,6 @@ use mathlib.Core.Path.{sym, _∙_, refl}
 use Rattle.piece_lengths.proofs.second_derivatives.angle_bend.Statement.{statement}
 use Rattle.piece_lengths.proofs.second_derivatives.angle_bend.Tie as tie
 
-note-requires : tie.Need-note-requires
-note-requires c κs = search needs
-
-note-requires-2 : tie.Need-note-requires-2
-note-requires-2 c κs = search needs
-
 returns : tie.Need-returns
 unfolding angleBendC
 returns c = ((simp (c .note2 .ensures, c .before .note .ensures, zero-first)) ∙ sym (angleBend-refusal (c .before .before .before .before .before .before .before .before .before .before .before .before .before .before .before .before .args .q) (c .before .before .before .before .before .before .before .before .before .before .before .before .before .before .before .before .args .q1) (c .before .before .before .before .before .before .before .before .before .before .before .before .before .before .before .before .args .q2)), refl)
@@ -20,6 +14,6 @@ pub angle-bend-spec : {M : Type 1} → statement M
 angle-bend-spec =
     tie.close
     (tie.spec
-    note-requires
-    note-requires-2
+    (λ c κs. search needs)
+    (λ c κs. search needs)
     returns)

@@ -4,18 +4,6 @@ use Rattle.checked.specs.Laws.{rules as checked-rules}
 use Rattle.piece_lengths.proofs.second_derivatives.meet_second.Statement.{statement}
 use Rattle.piece_lengths.proofs.second_derivatives.meet_second.Tie as tie
 
-meet-seconds-requires : tie.Need-meet-seconds-requires
-meet-seconds-requires c κs = search needs
-
-enum-told : tie.Need-enum-told
-enum-told c = search needs
-
-enum-told-2 : tie.Need-enum-told-2
-enum-told-2 c = search needs
-
-earlier-requires : tie.Need-earlier-requires
-earlier-requires c κs = search needs
-
 returns : tie.Need-returns
 unfolding meetC
 returns c = (simp (c .enum-told .given .1, c .before .before .meet-seconds .ensures .1 .1 .0, checked-rules), simp (c .enum-told .given .1, c .before .before .meet-seconds .ensures .1 .1 .1))
@@ -28,9 +16,9 @@ pub meet-second-spec : {M : Type 1} → statement M
 meet-second-spec =
     tie.close
     (tie.spec
-    meet-seconds-requires
-    enum-told
-    enum-told-2
-    earlier-requires
+    (λ c κs. search needs)
+    (λ c. search needs)
+    (λ c. search needs)
+    (λ c κs. search needs)
     returns
     returns-2)

@@ -5,24 +5,6 @@ use mathlib.Core.Path.{sym}
 use Rattle.pieces.proofs.Rolled.at.Statement.{statement}
 use Rattle.pieces.proofs.Rolled.at.Tie as tie
 
-is-within-requires : tie.Need-is-within-requires
-is-within-requires c κs = search needs
-
-fails-requires : tie.Need-fails-requires
-fails-requires c κs = search needs
-
-tried-requires : tie.Need-tried-requires
-tried-requires c κs = search needs
-
-earlier-requires : tie.Need-earlier-requires
-earlier-requires c κs = search needs
-
-at-requires : tie.Need-at-requires
-at-requires c κs = search needs
-
-settle-place-requires : tie.Need-settle-place-requires
-settle-place-requires c κs = search needs
-
 returns : tie.Need-returns
 unfolding atDue
 returns c = simp (c .settle-place .ensures, c .before .at .ensures .0, c .before .at .ensures .1, c .before .before .if1 .taken, passing-none, ← c .before .before .before .earlier .ensures, ← c .before .before .before .before .tried .ensures, ← c .before .before .before .before .before .fails .ensures, ← c .before .before .before .before .before .before .is-within .ensures)
@@ -35,11 +17,11 @@ pub at-spec : {M : Type 1} → statement M
 at-spec =
     tie.close
     (tie.spec
-    is-within-requires
-    fails-requires
-    tried-requires
-    earlier-requires
-    at-requires
-    settle-place-requires
+    (λ c κs. search needs)
+    (λ c κs. search needs)
+    (λ c κs. search needs)
+    (λ c κs. search needs)
+    (λ c κs. search needs)
+    (λ c κs. search needs)
     returns
     returns-2)

@@ -5,15 +5,6 @@ use mathlib.Core.Path.{sym}
 use Rattle.pieces.proofs.Rolled.measure.Statement.{statement}
 use Rattle.pieces.proofs.Rolled.measure.Tie as tie
 
-tried-requires : tie.Need-tried-requires
-tried-requires c κs = search needs
-
-measure-requires : tie.Need-measure-requires
-measure-requires c κs = search needs
-
-settle-measure-requires : tie.Need-settle-measure-requires
-settle-measure-requires c κs = search needs
-
 returns : tie.Need-returns
 unfolding measureDue
 returns c = simp (c .settle-measure .ensures, c .before .measure .ensures .0, c .before .measure .ensures .1, c .before .before .if1 .taken, passing-none, ← c .before .before .before .tried .ensures)
@@ -26,8 +17,8 @@ pub measure-spec : {M : Type 1} → statement M
 measure-spec =
     tie.close
     (tie.spec
-    tried-requires
-    measure-requires
-    settle-measure-requires
+    (λ c κs. search needs)
+    (λ c κs. search needs)
+    (λ c κs. search needs)
     returns
     returns-2)

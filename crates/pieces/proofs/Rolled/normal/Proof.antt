@@ -5,27 +5,6 @@ use mathlib.Core.Path.{sym}
 use Rattle.pieces.proofs.Rolled.normal.Statement.{statement}
 use Rattle.pieces.proofs.Rolled.normal.Tie as tie
 
-is-within2-requires : tie.Need-is-within2-requires
-is-within2-requires c κs = search needs
-
-is-within-requires : tie.Need-is-within-requires
-is-within-requires c κs = search needs
-
-fails-requires : tie.Need-fails-requires
-fails-requires c κs = search needs
-
-tried-requires : tie.Need-tried-requires
-tried-requires c κs = search needs
-
-earlier-requires : tie.Need-earlier-requires
-earlier-requires c κs = search needs
-
-normal-requires : tie.Need-normal-requires
-normal-requires c κs = search needs
-
-settle-requires : tie.Need-settle-requires
-settle-requires c κs = search needs
-
 returns : tie.Need-returns
 unfolding normalDue
 returns c = simp (c .settle .ensures, c .before .normal .ensures .0, c .before .normal .ensures .1, c .before .before .if1 .taken, passing-none, ← c .before .before .before .earlier .ensures, ← c .before .before .before .before .tried .ensures, ← c .before .before .before .before .before .fails .ensures, ← c .before .before .before .before .before .before .is-within .ensures, ← c .before .before .before .before .before .before .before .is-within2 .ensures)
@@ -38,12 +17,12 @@ pub normal-spec : {M : Type 1} → statement M
 normal-spec =
     tie.close
     (tie.spec
-    is-within2-requires
-    is-within-requires
-    fails-requires
-    tried-requires
-    earlier-requires
-    normal-requires
-    settle-requires
+    (λ c κs. search needs)
+    (λ c κs. search needs)
+    (λ c κs. search needs)
+    (λ c κs. search needs)
+    (λ c κs. search needs)
+    (λ c κs. search needs)
+    (λ c κs. search needs)
     returns
     returns-2)

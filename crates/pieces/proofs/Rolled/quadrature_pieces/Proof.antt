@@ -5,18 +5,6 @@ use mathlib.Core.Path.{sym}
 use Rattle.pieces.proofs.Rolled.quadrature_pieces.Statement.{statement}
 use Rattle.pieces.proofs.Rolled.quadrature_pieces.Tie as tie
 
-tried-requires : tie.Need-tried-requires
-tried-requires c κs = search needs
-
-run-requires : tie.Need-run-requires
-run-requires c κs = search needs
-
-quadrature-pieces-requires : tie.Need-quadrature-pieces-requires
-quadrature-pieces-requires c κs = search needs
-
-settle-count-requires : tie.Need-settle-count-requires
-settle-count-requires c κs = search needs
-
 returns : tie.Need-returns
 unfolding quadratureDue
 returns c = simp (c .settle-count .ensures, c .before .quadrature-pieces .ensures .0, c .before .quadrature-pieces .ensures .1, c .before .before .before .run .ensures .0, c .before .before .before .run .ensures .1, c .before .before .before .before .if1 .taken, passing-none, ← c .before .before .before .before .before .tried .ensures)
@@ -29,9 +17,9 @@ pub quadrature-pieces-spec : {M : Type 1} → statement M
 quadrature-pieces-spec =
     tie.close
     (tie.spec
-    tried-requires
-    run-requires
-    quadrature-pieces-requires
-    settle-count-requires
+    (λ c κs. search needs)
+    (λ c κs. search needs)
+    (λ c κs. search needs)
+    (λ c κs. search needs)
     returns
     returns-2)

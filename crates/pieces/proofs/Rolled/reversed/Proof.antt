@@ -5,12 +5,6 @@ use mathlib.Core.Path.{sym}
 use Rattle.pieces.proofs.Rolled.reversed.Statement.{statement}
 use Rattle.pieces.proofs.Rolled.reversed.Tie as tie
 
-tried-requires : tie.Need-tried-requires
-tried-requires c κs = search needs
-
-reversed-requires : tie.Need-reversed-requires
-reversed-requires c κs = search needs
-
 returns : tie.Need-returns
 unfolding reversedDue
 returns c = simp (c .reversed .ensures, c .before .if1 .taken, passing-none, ← c .before .before .tried .ensures)
@@ -23,7 +17,7 @@ pub reversed-spec : {M : Type 1} → statement M
 reversed-spec =
     tie.close
     (tie.spec
-    tried-requires
-    reversed-requires
+    (λ c κs. search needs)
+    (λ c κs. search needs)
     returns
     returns-2)

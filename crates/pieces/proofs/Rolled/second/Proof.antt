@@ -5,27 +5,6 @@ use mathlib.Core.Path.{sym}
 use Rattle.pieces.proofs.Rolled.second.Statement.{statement}
 use Rattle.pieces.proofs.Rolled.second.Tie as tie
 
-is-within-requires : tie.Need-is-within-requires
-is-within-requires c κs = search needs
-
-fails-requires : tie.Need-fails-requires
-fails-requires c κs = search needs
-
-tried-requires : tie.Need-tried-requires
-tried-requires c κs = search needs
-
-earlier-requires : tie.Need-earlier-requires
-earlier-requires c κs = search needs
-
-run-requires : tie.Need-run-requires
-run-requires c κs = search needs
-
-second-requires : tie.Need-second-requires
-second-requires c κs = search needs
-
-settle-second-requires : tie.Need-settle-second-requires
-settle-second-requires c κs = search needs
-
 returns : tie.Need-returns
 unfolding secondDue
 returns c = simp (c .settle-second .ensures, c .before .second .ensures .0, c .before .second .ensures .1, c .before .before .before .run .ensures .0, c .before .before .before .run .ensures .1, c .before .before .before .before .if1 .taken, passing-none, ← c .before .before .before .before .before .earlier .ensures, ← c .before .before .before .before .before .before .tried .ensures, ← c .before .before .before .before .before .before .before .fails .ensures, ← c .before .before .before .before .before .before .before .before .is-within .ensures)
@@ -38,12 +17,12 @@ pub second-spec : {M : Type 1} → statement M
 second-spec =
     tie.close
     (tie.spec
-    is-within-requires
-    fails-requires
-    tried-requires
-    earlier-requires
-    run-requires
-    second-requires
-    settle-second-requires
+    (λ c κs. search needs)
+    (λ c κs. search needs)
+    (λ c κs. search needs)
+    (λ c κs. search needs)
+    (λ c κs. search needs)
+    (λ c κs. search needs)
+    (λ c κs. search needs)
     returns
     returns-2)

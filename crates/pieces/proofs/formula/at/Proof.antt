@@ -6,18 +6,6 @@ use Rattle.pieces.specs.Pieces.{runC}
 use Rattle.pieces.proofs.formula.at.Statement.{statement}
 use Rattle.pieces.proofs.formula.at.Tie as tie
 
-enum-told : tie.Need-enum-told
-enum-told c = search needs
-
-untraced-at-requires : tie.Need-untraced-at-requires
-untraced-at-requires c κs = search needs
-
-enum-known-k : tie.Need-enum-known-k
-enum-known-k c = search needs
-
-traced-at-requires : tie.Need-traced-at-requires
-traced-at-requires c κs = search needs
-
 returns : tie.Need-returns
 unfolding runC runs.curveC kindC
 returns c = (simp (c .untraced-at .ensures .0, c .before .enum-told .given .1, zero-first), simp (c .untraced-at .ensures .1, c .before .enum-told .given .1))
@@ -30,9 +18,9 @@ pub at-spec : {M : Type 1} → statement M
 at-spec =
     tie.close
     (tie.spec
-    enum-told
-    untraced-at-requires
-    enum-known-k
-    traced-at-requires
+    (λ c. search needs)
+    (λ c κs. search needs)
+    (λ c. search needs)
+    (λ c κs. search needs)
     returns
     returns-2)

@@ -6,18 +6,6 @@ use Rattle.pieces.specs.Pieces.{runC}
 use Rattle.pieces.proofs.formula.measure.Statement.{statement}
 use Rattle.pieces.proofs.formula.measure.Tie as tie
 
-enum-told : tie.Need-enum-told
-enum-told c = search needs
-
-untraced-measure-requires : tie.Need-untraced-measure-requires
-untraced-measure-requires c κs = search needs
-
-enum-told-2 : tie.Need-enum-told-2
-enum-told-2 c = search needs
-
-run-measure-requires : tie.Need-run-measure-requires
-run-measure-requires c κs = search needs
-
 returns : tie.Need-returns
 unfolding runC runs.curveC kindC
 returns c = (simp (c .untraced-measure .ensures .0, c .before .enum-told .given .1, zero-first), simp (c .untraced-measure .ensures .1, c .before .enum-told .given .1))
@@ -29,9 +17,9 @@ pub measure-spec : {M : Type 1} → statement M
 measure-spec =
     tie.close
     (tie.spec
-    enum-told
-    untraced-measure-requires
-    enum-told-2
-    run-measure-requires
+    (λ c. search needs)
+    (λ c κs. search needs)
+    (λ c. search needs)
+    (λ c κs. search needs)
     returns
     returns-2)

@@ -5,27 +5,6 @@ use Rattle.piece_curves.specs.MeetCurvesLaws.{point-refusal, point-value}
 use Rattle.pieces.proofs.formula.meet_at.Statement.{statement}
 use Rattle.pieces.proofs.formula.meet_at.Tie as tie
 
-pipe-requires : tie.Need-pipe-requires
-pipe-requires c κs = search needs
-
-motion-requires : tie.Need-motion-requires
-motion-requires c κs = search needs
-
-placed-requires : tie.Need-placed-requires
-placed-requires c κs = search needs
-
-earlier-requires : tie.Need-earlier-requires
-earlier-requires c κs = search needs
-
-earlier-requires-2 : tie.Need-earlier-requires-2
-earlier-requires-2 c κs = search needs
-
-earlier-requires-3 : tie.Need-earlier-requires-3
-earlier-requires-3 c κs = search needs
-
-earlier-requires-4 : tie.Need-earlier-requires-4
-earlier-requires-4 c κs = search needs
-
 returns : tie.Need-returns
 unfolding atC
 returns c =
@@ -36,11 +15,11 @@ pub meet-at-spec : {M : Type 1} → statement M
 meet-at-spec =
     tie.close
     (tie.spec
-    pipe-requires
-    motion-requires
-    placed-requires
-    earlier-requires
-    earlier-requires-2
-    earlier-requires-3
-    earlier-requires-4
+    (λ c κs. search needs)
+    (λ c κs. search needs)
+    (λ c κs. search needs)
+    (λ c κs. search needs)
+    (λ c κs. search needs)
+    (λ c κs. search needs)
+    (λ c κs. search needs)
     returns)

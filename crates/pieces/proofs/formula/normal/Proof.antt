@@ -3,15 +3,6 @@ use Rattle.pieces.specs.Pieces.{normalC}
 use Rattle.pieces.proofs.formula.normal.Statement.{statement}
 use Rattle.pieces.proofs.formula.normal.Tie as tie
 
-direction-requires : tie.Need-direction-requires
-direction-requires c κs = search needs
-
-normal-of-requires : tie.Need-normal-of-requires
-normal-of-requires c κs = search needs
-
-earlier-requires : tie.Need-earlier-requires
-earlier-requires c κs = search needs
-
 returns : tie.Need-returns
 unfolding normalC
 returns c = (simp (c .earlier .ensures, c .before .before .normal-of .ensures .0, c .before .before .before .before .direction .ensures .0, c .before .before .before .before .direction .ensures .1), simp (c .before .before .normal-of .ensures .1, c .before .before .before .before .direction .ensures .1))
@@ -20,7 +11,7 @@ pub normal-spec : {M : Type 1} → statement M
 normal-spec =
     tie.close
     (tie.spec
-    direction-requires
-    normal-of-requires
-    earlier-requires
+    (λ c κs. search needs)
+    (λ c κs. search needs)
+    (λ c κs. search needs)
     returns)

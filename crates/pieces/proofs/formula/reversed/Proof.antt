@@ -3,12 +3,6 @@ use Rattle.pieces.specs.Pieces.{back}
 use Rattle.pieces.proofs.formula.reversed.Statement.{statement}
 use Rattle.pieces.proofs.formula.reversed.Tie as tie
 
-arc-back-requires : tie.Need-arc-back-requires
-arc-back-requires c κs = search needs
-
-trace-back-requires : tie.Need-trace-back-requires
-trace-back-requires c κs = search needs
-
 returns : tie.Need-returns
 unfolding back
 returns c = simp (c .trace-back .ensures, c .before .arc-back .ensures)
@@ -17,6 +11,6 @@ pub reversed-spec : {M : Type 1} → statement M
 reversed-spec =
     tie.close
     (tie.spec
-    arc-back-requires
-    trace-back-requires
+    (λ c κs. search needs)
+    (λ c κs. search needs)
     returns)

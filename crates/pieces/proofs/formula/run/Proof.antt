@@ -3,9 +3,6 @@ use Rattle.pieces.specs.Pieces.{runC}
 use Rattle.pieces.proofs.formula.run.Statement.{statement}
 use Rattle.pieces.proofs.formula.run.Tie as tie
 
-curve-of-requires : tie.Need-curve-of-requires
-curve-of-requires c κs = search needs
-
 returns : tie.Need-returns
 unfolding runC
 returns c = (simp (c .curve-of .ensures .0), simp (c .curve-of .ensures .1))
@@ -14,5 +11,5 @@ pub run-spec : {M : Type 1} → statement M
 run-spec =
     tie.close
     (tie.spec
-    curve-of-requires
+    (λ c κs. search needs)
     returns)

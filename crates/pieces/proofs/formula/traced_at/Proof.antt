@@ -5,18 +5,6 @@ use Rattle.piece_curves.specs.Points.{atC}
 use Rattle.pieces.proofs.formula.traced_at.Statement.{statement}
 use Rattle.pieces.proofs.formula.traced_at.Tie as tie
 
-enum-known-f : tie.Need-enum-known-f
-enum-known-f c = search needs
-
-wave-at-requires : tie.Need-wave-at-requires
-wave-at-requires c κs = search needs
-
-enum-known-f-2 : tie.Need-enum-known-f-2
-enum-known-f-2 c = search needs
-
-meet-at-requires : tie.Need-meet-at-requires
-meet-at-requires c κs = search needs
-
 returns : tie.Need-returns
 unfolding tracedC atC
 returns c = (simp (c .wave-at .ensures .0, c .before .before .f .given .1, zero-first), simp (c .wave-at .ensures .1, c .before .before .f .given .1))
@@ -29,9 +17,9 @@ pub traced-at-spec : {M : Type 1} → statement M
 traced-at-spec =
     tie.close
     (tie.spec
-    enum-known-f
-    wave-at-requires
-    enum-known-f-2
-    meet-at-requires
+    (λ c. search needs)
+    (λ c κs. search needs)
+    (λ c. search needs)
+    (λ c κs. search needs)
     returns
     returns-2)

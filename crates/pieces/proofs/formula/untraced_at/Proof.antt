@@ -4,18 +4,6 @@ use Rattle.piece_curves.specs.Points.{atC}
 use Rattle.pieces.proofs.formula.untraced_at.Statement.{statement}
 use Rattle.pieces.proofs.formula.untraced_at.Tie as tie
 
-enum-told : tie.Need-enum-told
-enum-told c = search needs
-
-straight-at-requires : tie.Need-straight-at-requires
-straight-at-requires c κs = search needs
-
-enum-known-a : tie.Need-enum-known-a
-enum-known-a c = search needs
-
-arc-at-requires : tie.Need-arc-at-requires
-arc-at-requires c κs = search needs
-
 returns : tie.Need-returns
 unfolding untraced atC
 returns c = (simp (c .straight-at .ensures .0, c .before .enum-told .given .1), simp (c .straight-at .ensures .1, c .before .enum-told .given .1))
@@ -28,9 +16,9 @@ pub untraced-at-spec : {M : Type 1} → statement M
 untraced-at-spec =
     tie.close
     (tie.spec
-    enum-told
-    straight-at-requires
-    enum-known-a
-    arc-at-requires
+    (λ c. search needs)
+    (λ c κs. search needs)
+    (λ c. search needs)
+    (λ c κs. search needs)
     returns
     returns-2)

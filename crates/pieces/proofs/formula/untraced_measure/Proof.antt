@@ -4,18 +4,6 @@ use Rattle.piece_lengths.specs.Measures.{measureC}
 use Rattle.pieces.proofs.formula.untraced_measure.Statement.{statement}
 use Rattle.pieces.proofs.formula.untraced_measure.Tie as tie
 
-enum-told : tie.Need-enum-told
-enum-told c = search needs
-
-segment-requires : tie.Need-segment-requires
-segment-requires c κs = search needs
-
-enum-known-a : tie.Need-enum-known-a
-enum-known-a c = search needs
-
-arc-measure-requires : tie.Need-arc-measure-requires
-arc-measure-requires c κs = search needs
-
 returns : tie.Need-returns
 unfolding untraced measureC
 returns c = (simp (c .segment .ensures .0, c .before .enum-told .given .1), simp (c .segment .ensures .1, c .before .enum-told .given .1))
@@ -28,9 +16,9 @@ pub untraced-measure-spec : {M : Type 1} → statement M
 untraced-measure-spec =
     tie.close
     (tie.spec
-    enum-told
-    segment-requires
-    enum-known-a
-    arc-measure-requires
+    (λ c. search needs)
+    (λ c κs. search needs)
+    (λ c. search needs)
+    (λ c κs. search needs)
     returns
     returns-2)

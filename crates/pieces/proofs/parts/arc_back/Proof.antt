@@ -3,12 +3,6 @@ use Rattle.pieces.specs.Reversals.{arcBack}
 use Rattle.pieces.proofs.parts.arc_back.Statement.{statement}
 use Rattle.pieces.proofs.parts.arc_back.Tie as tie
 
-enum-told : tie.Need-enum-told
-enum-told c = search needs
-
-enum-known-arc : tie.Need-enum-known-arc
-enum-known-arc c = search needs
-
 returns : tie.Need-returns
 unfolding arcBack
 returns c = simp (c .enum-told .given .1)
@@ -21,7 +15,7 @@ pub arc-back-spec : {M : Type 1} → statement M
 arc-back-spec =
     tie.close
     (tie.spec
-    enum-told
-    enum-known-arc
+    (λ c. search needs)
+    (λ c. search needs)
     returns
     returns-2)

@@ -3,15 +3,6 @@ use Rattle.pieces.specs.Tests.{both}
 use Rattle.pieces.proofs.parts.are_both.Statement.{statement}
 use Rattle.pieces.proofs.parts.are_both.Tie as tie
 
-enum-told : tie.Need-enum-told
-enum-told c = search needs
-
-enum-told-2 : tie.Need-enum-told-2
-enum-told-2 c = search needs
-
-is-traced-requires : tie.Need-is-traced-requires
-is-traced-requires c κs = search needs
-
 returns : tie.Need-returns
 unfolding both
 returns c = simp (c .enum-told .given .1)
@@ -24,8 +15,8 @@ pub are-both-spec : {M : Type 1} → statement M
 are-both-spec =
     tie.close
     (tie.spec
-    enum-told
-    enum-told-2
-    is-traced-requires
+    (λ c. search needs)
+    (λ c. search needs)
+    (λ c κs. search needs)
     returns
     returns-2)

@@ -3,15 +3,6 @@ use Rattle.pieces.specs.Tests.{arcWithin}
 use Rattle.pieces.proofs.parts.is_arc_within.Statement.{statement}
 use Rattle.pieces.proofs.parts.is_arc_within.Tie as tie
 
-enum-told : tie.Need-enum-told
-enum-told c = search needs
-
-enum-known-arc : tie.Need-enum-known-arc
-enum-known-arc c = search needs
-
-is-within2-requires : tie.Need-is-within2-requires
-is-within2-requires c κs = search needs
-
 returns : tie.Need-returns
 unfolding arcWithin
 returns c = simp (c .enum-told .given .1)
@@ -24,8 +15,8 @@ pub is-arc-within-spec : {M : Type 1} → statement M
 is-arc-within-spec =
     tie.close
     (tie.spec
-    enum-told
-    enum-known-arc
-    is-within2-requires
+    (λ c. search needs)
+    (λ c. search needs)
+    (λ c κs. search needs)
     returns
     returns-2)

@@ -3,15 +3,6 @@ use Rattle.pieces.specs.Tests.{followedWithin}
 use Rattle.pieces.proofs.parts.is_trace_within.Statement.{statement}
 use Rattle.pieces.proofs.parts.is_trace_within.Tie as tie
 
-enum-told : tie.Need-enum-told
-enum-told c = search needs
-
-enum-known-trace : tie.Need-enum-known-trace
-enum-known-trace c = search needs
-
-is-within-limit-requires : tie.Need-is-within-limit-requires
-is-within-limit-requires c κs = search needs
-
 returns : tie.Need-returns
 unfolding followedWithin
 returns c = simp (c .enum-told .given .1)
@@ -24,8 +15,8 @@ pub is-trace-within-spec : {M : Type 1} → statement M
 is-trace-within-spec =
     tie.close
     (tie.spec
-    enum-told
-    enum-known-trace
-    is-within-limit-requires
+    (λ c. search needs)
+    (λ c. search needs)
+    (λ c κs. search needs)
     returns
     returns-2)

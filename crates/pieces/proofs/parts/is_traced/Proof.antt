@@ -3,12 +3,6 @@ use Rattle.pieces.specs.Tests.{isTraced}
 use Rattle.pieces.proofs.parts.is_traced.Statement.{statement}
 use Rattle.pieces.proofs.parts.is_traced.Tie as tie
 
-enum-told : tie.Need-enum-told
-enum-told c = search needs
-
-enum-told-2 : tie.Need-enum-told-2
-enum-told-2 c = search needs
-
 returns : tie.Need-returns
 unfolding isTraced
 returns c = simp (c .enum-told .given .1)
@@ -21,7 +15,7 @@ pub is-traced-spec : {M : Type 1} → statement M
 is-traced-spec =
     tie.close
     (tie.spec
-    enum-told
-    enum-told-2
+    (λ c. search needs)
+    (λ c. search needs)
     returns
     returns-2)

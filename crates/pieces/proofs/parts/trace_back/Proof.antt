@@ -3,15 +3,6 @@ use Rattle.pieces.specs.Reversals.{traceBack}
 use Rattle.pieces.proofs.parts.trace_back.Statement.{statement}
 use Rattle.pieces.proofs.parts.trace_back.Tie as tie
 
-enum-told : tie.Need-enum-told
-enum-told c = search needs
-
-enum-known-trace : tie.Need-enum-known-trace
-enum-known-trace c = search needs
-
-curve-back-requires : tie.Need-curve-back-requires
-curve-back-requires c κs = search needs
-
 returns : tie.Need-returns
 unfolding traceBack
 returns c = simp (c .enum-told .given .1)
@@ -24,8 +15,8 @@ pub trace-back-spec : {M : Type 1} → statement M
 trace-back-spec =
     tie.close
     (tie.spec
-    enum-told
-    enum-known-trace
-    curve-back-requires
+    (λ c. search needs)
+    (λ c. search needs)
+    (λ c κs. search needs)
     returns
     returns-2)

@@ -3,12 +3,6 @@ use Rattle.pieces.specs.Reversals.{turnBack}
 use Rattle.pieces.proofs.parts.turn_back.Statement.{statement}
 use Rattle.pieces.proofs.parts.turn_back.Tie as tie
 
-enum-told : tie.Need-enum-told
-enum-told c = search needs
-
-enum-known-t : tie.Need-enum-known-t
-enum-known-t c = search needs
-
 returns : tie.Need-returns
 unfolding turnBack
 returns c = simp (c .enum-told .given .1)
@@ -21,7 +15,7 @@ pub turn-back-spec : {M : Type 1} → statement M
 turn-back-spec =
     tie.close
     (tie.spec
-    enum-told
-    enum-known-t
+    (λ c. search needs)
+    (λ c. search needs)
     returns
     returns-2)

@@ -5,18 +5,6 @@ use mathlib.Core.Path.{sym}
 use Rattle.profile_arcs.proofs.ProfileArc.turn.Statement.{statement}
 use Rattle.profile_arcs.proofs.ProfileArc.turn.Tie as tie
 
-is-handed-requires : tie.Need-is-handed-requires
-is-handed-requires c κs = search needs
-
-fails-requires : tie.Need-fails-requires
-fails-requires c κs = search needs
-
-turn-requires : tie.Need-turn-requires
-turn-requires c κs = search needs
-
-settle-requires : tie.Need-settle-requires
-settle-requires c κs = search needs
-
 returns : tie.Need-returns
 unfolding turnDue
 returns c = simp (c .settle .ensures, c .before .turn .ensures .0, c .before .turn .ensures .1, c .before .before .if1 .taken, passing-none, ← c .before .before .before .fails .ensures, ← c .before .before .before .before .is-handed .ensures)
@@ -28,4 +16,4 @@ returns-2 c = simp (← c .before .fails .ensures, ← c .before .before .is-han
 pub turn-spec : {M : Type 1} → statement M
 turn-spec =
     tie.close
-    (tie.spec is-handed-requires fails-requires turn-requires settle-requires returns returns-2)
+    (tie.spec (λ c κs. search needs) (λ c κs. search needs) (λ c κs. search needs) (λ c κs. search needs) returns returns-2)

@@ -5,27 +5,6 @@ use mathlib.Core.Path.{sym}
 use Rattle.revolutions.proofs.closings.closed.Statement.{statement}
 use Rattle.revolutions.proofs.closings.closed.Tie as tie
 
-is-within-requires : tie.Need-is-within-requires
-is-within-requires c κs = search needs
-
-fails-requires : tie.Need-fails-requires
-fails-requires c κs = search needs
-
-are-finite-requires : tie.Need-are-finite-requires
-are-finite-requires c κs = search needs
-
-fails-requires-2 : tie.Need-fails-requires-2
-fails-requires-2 c κs = search needs
-
-earlier-requires : tie.Need-earlier-requires
-earlier-requires c κs = search needs
-
-joined-requires : tie.Need-joined-requires
-joined-requires c κs = search needs
-
-settle-requires : tie.Need-settle-requires
-settle-requires c κs = search needs
-
 returns : tie.Need-returns
 unfolding closeDue
 returns c = simp (c .settle .ensures, c .before .joined .ensures .0, c .before .joined .ensures .1, c .before .before .if1 .taken, passing-none, ← c .before .before .before .earlier .ensures, ← c .before .before .before .before .fails2 .ensures, ← c .before .before .before .before .before .are-finite .ensures, ← c .before .before .before .before .before .before .fails .ensures, ← c .before .before .before .before .before .before .before .is-within .ensures)
@@ -38,12 +17,12 @@ pub closed-spec : {M : Type 1} → statement M
 closed-spec =
     tie.close
     (tie.spec
-    is-within-requires
-    fails-requires
-    are-finite-requires
-    fails-requires-2
-    earlier-requires
-    joined-requires
-    settle-requires
+    (λ c κs. search needs)
+    (λ c κs. search needs)
+    (λ c κs. search needs)
+    (λ c κs. search needs)
+    (λ c κs. search needs)
+    (λ c κs. search needs)
+    (λ c κs. search needs)
     returns
     returns-2)

@@ -6,22 +6,10 @@ use mathlib.Core.Path.{sym, _∙_}
 use Rattle.revolutions.proofs.closings.joined.Statement.{statement}
 use Rattle.revolutions.proofs.closings.joined.Tie as tie
 
-plus-requires : tie.Need-plus-requires
-plus-requires c κs = search needs
-
-plus-requires-2 : tie.Need-plus-requires-2
-plus-requires-2 c κs = search needs
-
-sigma-requires : tie.Need-sigma-requires
-sigma-requires c κs = search needs
-
-noted-requires : tie.Need-noted-requires
-noted-requires c κs = search needs
-
 returns : tie.Need-returns
 unfolding closeC
 returns c = ((simp (c .noted .ensures, c .before .before .before .sigma .ensures, c .before .before .before .before .before .before .plus2 .ensures, c .before .before .before .before .before .before .before .plus .ensures, zero-first)) ∙ sym (close-refusal (c .before .before .before .before .before .before .before .before .before .before .args .acc) (c .before .before .before .before .before .before .before .before .before .before .args .convex) (c .before .before .before .before .before .before .before .before .before .before .args .sums)), simp (c .before .before .before .sigma .ensures, c .before .before .before .before .before .before .plus2 .ensures, c .before .before .before .before .before .before .before .plus .ensures))
 
 pub joined-spec : {M : Type 1} → statement M
 joined-spec =
-    tie.close (tie.spec plus-requires plus-requires-2 sigma-requires noted-requires returns)
+    tie.close (tie.spec (λ c κs. search needs) (λ c κs. search needs) (λ c κs. search needs) (λ c κs. search needs) returns)

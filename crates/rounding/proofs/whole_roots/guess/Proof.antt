@@ -22,12 +22,6 @@ h n = (g n * 2048 + n / 2 ^ 11 / g n) / 2 ^ 1
 av : (n : ℕ) → a n * v n ≤ 68945 * v n
 av n = mul-le-mul-right (v n) (sub-le 68945 (20730 * v n / 2 ^ 16))
 
-mul-a : tie.Need-mul-a
-mul-a c = search needs
-
-sub-a : tie.Need-sub-a
-sub-a c = search needs
-
 mul-g : tie.Need-mul-g
 mul-g c = omega (arith, av (c .args .n))
 
@@ -37,23 +31,11 @@ add-g c = omega (arith, av (c .args .n))
 mul-h : tie.Need-mul-h
 mul-h c = omega (arith, av (c .args .n))
 
-div-h : tie.Need-div-h
-div-h c = search needs
-
 add-h : tie.Need-add-h
 add-h c = omega (arith, av (c .args .n), div-le-self (c .args .n / 2 ^ 11) (g (c .args .n)))
-
-div-i : tie.Need-div-i
-div-i c = search needs
 
 add-i : tie.Need-add-i
 add-i c = omega (arith, av (c .args .n), div-le-self (c .args .n / 2 ^ 11) (g (c .args .n)), div-le-self (c .args .n) (h (c .args .n)))
 
-returns : tie.Need-returns
-returns c = search needs
-
-returns-2 : tie.Need-returns-2
-returns-2 c = search needs
-
 pub guess-spec : {M : Type 1} → statement M
-guess-spec = tie.close (tie.spec mul-a sub-a mul-g add-g mul-h div-h add-h div-i add-i returns returns-2)
+guess-spec = tie.close (tie.spec (λ c. search needs) (λ c. search needs) mul-g add-g mul-h (λ c. search needs) add-h (λ c. search needs) add-i (λ c. search needs) (λ c. search needs))

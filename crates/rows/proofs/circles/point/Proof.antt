@@ -6,24 +6,6 @@ use mathlib.Core.Path.{sym, _∙_}
 use Rattle.rows.proofs.circles.point.Statement.{statement}
 use Rattle.rows.proofs.circles.point.Tie as tie
 
-sincos-requires : tie.Need-sincos-requires
-sincos-requires c κs = search needs
-
-times-requires : tie.Need-times-requires
-times-requires c κs = search needs
-
-plus-requires : tie.Need-plus-requires
-plus-requires c κs = search needs
-
-times-requires-2 : tie.Need-times-requires-2
-times-requires-2 c κs = search needs
-
-plus-requires-2 : tie.Need-plus-requires-2
-plus-requires-2 c κs = search needs
-
-noted-requires : tie.Need-noted-requires
-noted-requires c κs = search needs
-
 returns : tie.Need-returns
 unfolding circleC
 returns c = ((simp (c .noted .ensures, c .before .plus2 .ensures, c .before .before .times2 .ensures, c .before .before .before .plus .ensures, c .before .before .before .before .times .ensures, c .before .before .before .before .before .sincos .ensures .0, c .before .before .before .before .before .sincos .ensures .1 .0, c .before .before .before .before .before .sincos .ensures .1 .1, first-assoc)) ∙ sym (rim-refusal (c .before .before .before .before .before .before .args .rim) (c .before .before .before .before .before .before .args .t)), simp (c .before .plus2 .ensures, c .before .before .times2 .ensures, c .before .before .before .plus .ensures, c .before .before .before .before .times .ensures, c .before .before .before .before .before .sincos .ensures .1 .0, c .before .before .before .before .before .sincos .ensures .1 .1))
@@ -32,10 +14,10 @@ pub point-spec : {M : Type 1} → statement M
 point-spec =
     tie.close
     (tie.spec
-    sincos-requires
-    times-requires
-    plus-requires
-    times-requires-2
-    plus-requires-2
-    noted-requires
+    (λ c κs. search needs)
+    (λ c κs. search needs)
+    (λ c κs. search needs)
+    (λ c κs. search needs)
+    (λ c κs. search needs)
+    (λ c κs. search needs)
     returns)

@@ -8,27 +8,6 @@ use Rattle.rows.specs.Laws.{flat-length, flat-part, some-due, some-refus
 use Rattle.rows.proofs.circles.write_kept.Statement.{statement}
 use Rattle.rows.proofs.circles.write_kept.Tie as tie
 
-slice-aggregate-work-out : tie.Need-slice-aggregate-work-out
-slice-aggregate-work-out c = search needs
-
-work-out-requires : tie.Need-work-out-requires
-work-out-requires c κs = search needs
-
-earlier-requires : tie.Need-earlier-requires
-earlier-requires c κs = search needs
-
-slice-aggregate-copy-part : tie.Need-slice-aggregate-copy-part
-slice-aggregate-copy-part c = search needs
-
-mul-copy-part : tie.Need-mul-copy-part
-mul-copy-part c = search needs
-
-copy-part-requires : tie.Need-copy-part-requires
-copy-part-requires c κs = search needs
-
-same-length : tie.Need-same-length
-same-length c = search needs
-
 returns : tie.Need-returns
 returns c =
     let start = c .before .before .before .before .before .before .before .before .before .before .before .args in
@@ -51,12 +30,12 @@ pub write-kept-spec : {M : Type 1} → statement M
 write-kept-spec =
     tie.close
     (tie.spec
-    slice-aggregate-work-out
-    work-out-requires
-    earlier-requires
-    slice-aggregate-copy-part
-    mul-copy-part
-    copy-part-requires
-    same-length
+    (λ c. search needs)
+    (λ c κs. search needs)
+    (λ c κs. search needs)
+    (λ c. search needs)
+    (λ c. search needs)
+    (λ c κs. search needs)
+    (λ c. search needs)
     returns
     returns-2)

@@ -8,18 +8,6 @@ use Rattle.rows.specs.Laws.{flat-length, some-due, some-refused}
 use Rattle.rows.proofs.circles.write_twice.Statement.{statement}
 use Rattle.rows.proofs.circles.write_twice.Tie as tie
 
-noted-all-requires : tie.Need-noted-all-requires
-noted-all-requires c κs = search needs
-
-earlier-requires : tie.Need-earlier-requires
-earlier-requires c κs = search needs
-
-work-out-requires : tie.Need-work-out-requires
-work-out-requires c κs = search needs
-
-same-length : tie.Need-same-length
-same-length c = search needs
-
 returns : tie.Need-returns
 returns c =
     let start = c .before .before .before .before .before .before .before .before .args in
@@ -40,4 +28,4 @@ returns-2 c =
 pub write-twice-spec : {M : Type 1} → statement M
 write-twice-spec =
     tie.close
-    (tie.spec noted-all-requires earlier-requires work-out-requires same-length returns returns-2)
+    (tie.spec (λ c κs. search needs) (λ c κs. search needs) (λ c κs. search needs) (λ c. search needs) returns returns-2)

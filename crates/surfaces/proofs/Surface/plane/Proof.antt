@@ -6,21 +6,6 @@ use mathlib.Core.Path.{sym}
 use Rattle.surfaces.proofs.Surface.plane.Statement.{statement}
 use Rattle.surfaces.proofs.Surface.plane.Tie as tie
 
-tried-requires : tie.Need-tried-requires
-tried-requires c κs = search needs
-
-enum-known-self : tie.Need-enum-known-self
-enum-known-self c = search needs
-
-enum-told : tie.Need-enum-told
-enum-told c = search needs
-
-enum-told-2 : tie.Need-enum-told-2
-enum-told-2 c = search needs
-
-enum-told-3 : tie.Need-enum-told-3
-enum-told-3 c = search needs
-
 returns : tie.Need-returns
 unfolding planeDue planeOf
 returns c = simp (c .before .before .before .if1 .taken, passing-none, ← c .before .before .before .before .tried .ensures) (simp (c .before .self .given .1))
@@ -45,11 +30,11 @@ pub plane-spec : {M : Type 1} → statement M
 plane-spec =
     tie.close
     (tie.spec
-    tried-requires
-    enum-known-self
-    enum-told
-    enum-told-2
-    enum-told-3
+    (λ c κs. search needs)
+    (λ c. search needs)
+    (λ c. search needs)
+    (λ c. search needs)
+    (λ c. search needs)
     returns
     returns-2
     returns-3

@@ -6,21 +6,6 @@ use mathlib.Core.Path.{sym}
 use Rattle.surfaces.proofs.Surface.revolution.Statement.{statement}
 use Rattle.surfaces.proofs.Surface.revolution.Tie as tie
 
-tried-requires : tie.Need-tried-requires
-tried-requires c κs = search needs
-
-enum-told : tie.Need-enum-told
-enum-told c = search needs
-
-enum-known-self : tie.Need-enum-known-self
-enum-known-self c = search needs
-
-enum-known-self-2 : tie.Need-enum-known-self-2
-enum-known-self-2 c = search needs
-
-enum-told-2 : tie.Need-enum-told-2
-enum-told-2 c = search needs
-
 returns : tie.Need-returns
 unfolding revolutionDue coneOf
 returns c = simp (c .before .before .if1 .taken, passing-none, ← c .before .before .before .tried .ensures) (simp (c .enum-told .given .1))
@@ -45,11 +30,11 @@ pub revolution-spec : {M : Type 1} → statement M
 revolution-spec =
     tie.close
     (tie.spec
-    tried-requires
-    enum-told
-    enum-known-self
-    enum-known-self-2
-    enum-told-2
+    (λ c κs. search needs)
+    (λ c. search needs)
+    (λ c. search needs)
+    (λ c. search needs)
+    (λ c. search needs)
     returns
     returns-2
     returns-3

@@ -3,48 +3,6 @@ use Rattle.surfaces.specs.Entries.{tests}
 use Rattle.surfaces.proofs.Surface.tried.Statement.{statement}
 use Rattle.surfaces.proofs.Surface.tried.Tie as tie
 
-enum-known-self : tie.Need-enum-known-self
-enum-known-self c = search needs
-
-is-within3-requires : tie.Need-is-within3-requires
-is-within3-requires c κs = search needs
-
-is-within3-requires-2 : tie.Need-is-within3-requires-2
-is-within3-requires-2 c κs = search needs
-
-fails-requires : tie.Need-fails-requires
-fails-requires c κs = search needs
-
-enum-known-self-2 : tie.Need-enum-known-self-2
-enum-known-self-2 c = search needs
-
-is-within3-requires-3 : tie.Need-is-within3-requires-3
-is-within3-requires-3 c κs = search needs
-
-is-within3-requires-4 : tie.Need-is-within3-requires-4
-is-within3-requires-4 c κs = search needs
-
-is-within-requires : tie.Need-is-within-requires
-is-within-requires c κs = search needs
-
-fails-requires-2 : tie.Need-fails-requires-2
-fails-requires-2 c κs = search needs
-
-enum-known-self-3 : tie.Need-enum-known-self-3
-enum-known-self-3 c = search needs
-
-is-within-requires-2 : tie.Need-is-within-requires-2
-is-within-requires-2 c κs = search needs
-
-fails-requires-3 : tie.Need-fails-requires-3
-fails-requires-3 c κs = search needs
-
-enum-known-self-4 : tie.Need-enum-known-self-4
-enum-known-self-4 c = search needs
-
-tried-requires : tie.Need-tried-requires
-tried-requires c κs = search needs
-
 returns : tie.Need-returns
 unfolding tests
 returns c = simp (c .fails .ensures, c .before .is-within32 .ensures, c .before .before .is-within3 .ensures, c .before .before .before .before .self .given .1)
@@ -65,20 +23,20 @@ pub tried-spec : {M : Type 1} → statement M
 tried-spec =
     tie.close
     (tie.spec
-    enum-known-self
-    is-within3-requires
-    is-within3-requires-2
-    fails-requires
-    enum-known-self-2
-    is-within3-requires-3
-    is-within3-requires-4
-    is-within-requires
-    fails-requires-2
-    enum-known-self-3
-    is-within-requires-2
-    fails-requires-3
-    enum-known-self-4
-    tried-requires
+    (λ c. search needs)
+    (λ c κs. search needs)
+    (λ c κs. search needs)
+    (λ c κs. search needs)
+    (λ c. search needs)
+    (λ c κs. search needs)
+    (λ c κs. search needs)
+    (λ c κs. search needs)
+    (λ c κs. search needs)
+    (λ c. search needs)
+    (λ c κs. search needs)
+    (λ c κs. search needs)
+    (λ c. search needs)
+    (λ c κs. search needs)
     returns
     returns-2
     returns-3

@@ -4,30 +4,6 @@ use Rattle.checked.specs.Laws.{rules as checked-rules}
 use Rattle.surfaces.proofs.formula.moved.Statement.{statement}
 use Rattle.surfaces.proofs.formula.moved.Tie as tie
 
-enum-known-s : tie.Need-enum-known-s
-enum-known-s c = search needs
-
-moved-requires : tie.Need-moved-requires
-moved-requires c κs = search needs
-
-enum-known-s-2 : tie.Need-enum-known-s-2
-enum-known-s-2 c = search needs
-
-moved-requires-2 : tie.Need-moved-requires-2
-moved-requires-2 c κs = search needs
-
-enum-known-s-3 : tie.Need-enum-known-s-3
-enum-known-s-3 c = search needs
-
-moved-requires-3 : tie.Need-moved-requires-3
-moved-requires-3 c κs = search needs
-
-enum-known-s-4 : tie.Need-enum-known-s-4
-enum-known-s-4 c = search needs
-
-moved-piece-requires : tie.Need-moved-piece-requires
-moved-piece-requires c κs = search needs
-
 returns : tie.Need-returns
 unfolding movedC
 returns c = (simp (c .before .before .moved .ensures .0, c .before .before .before .before .s .given .1, checked-rules), simp (c .before .before .moved .ensures .1, c .before .before .before .before .s .given .1))
@@ -48,14 +24,14 @@ pub moved-spec : {M : Type 1} → statement M
 moved-spec =
     tie.close
     (tie.spec
-    enum-known-s
-    moved-requires
-    enum-known-s-2
-    moved-requires-2
-    enum-known-s-3
-    moved-requires-3
-    enum-known-s-4
-    moved-piece-requires
+    (λ c. search needs)
+    (λ c κs. search needs)
+    (λ c. search needs)
+    (λ c κs. search needs)
+    (λ c. search needs)
+    (λ c κs. search needs)
+    (λ c. search needs)
+    (λ c κs. search needs)
     returns
     returns-2
     returns-3

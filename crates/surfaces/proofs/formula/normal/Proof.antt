@@ -3,30 +3,6 @@ use Rattle.surfaces.specs.Surfaces.{normalC}
 use Rattle.surfaces.proofs.formula.normal.Statement.{statement}
 use Rattle.surfaces.proofs.formula.normal.Tie as tie
 
-enum-known-s : tie.Need-enum-known-s
-enum-known-s c = search needs
-
-unit-requires : tie.Need-unit-requires
-unit-requires c κs = search needs
-
-enum-known-s-2 : tie.Need-enum-known-s-2
-enum-known-s-2 c = search needs
-
-cylinder-requires : tie.Need-cylinder-requires
-cylinder-requires c κs = search needs
-
-enum-known-s-3 : tie.Need-enum-known-s-3
-enum-known-s-3 c = search needs
-
-cone-requires : tie.Need-cone-requires
-cone-requires c κs = search needs
-
-enum-known-s-4 : tie.Need-enum-known-s-4
-enum-known-s-4 c = search needs
-
-wall-normal-requires : tie.Need-wall-normal-requires
-wall-normal-requires c κs = search needs
-
 returns : tie.Need-returns
 unfolding normalC
 returns c = (simp (c .unit .ensures .0, c .before .before .s .given .1), simp (c .unit .ensures .1, c .before .before .s .given .1))
@@ -47,14 +23,14 @@ pub normal-spec : {M : Type 1} → statement M
 normal-spec =
     tie.close
     (tie.spec
-    enum-known-s
-    unit-requires
-    enum-known-s-2
-    cylinder-requires
-    enum-known-s-3
-    cone-requires
-    enum-known-s-4
-    wall-normal-requires
+    (λ c. search needs)
+    (λ c κs. search needs)
+    (λ c. search needs)
+    (λ c κs. search needs)
+    (λ c. search needs)
+    (λ c κs. search needs)
+    (λ c. search needs)
+    (λ c κs. search needs)
     returns
     returns-2
     returns-3

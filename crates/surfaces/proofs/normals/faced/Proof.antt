@@ -3,9 +3,6 @@ use Rattle.surfaces.specs.Normals.{facedC}
 use Rattle.surfaces.proofs.normals.faced.Statement.{statement}
 use Rattle.surfaces.proofs.normals.faced.Tie as tie
 
-neg-requires : tie.Need-neg-requires
-neg-requires c κs = search needs
-
 returns : tie.Need-returns
 unfolding facedC
 returns c = simp (c .if1 .taken)
@@ -15,4 +12,4 @@ unfolding facedC
 returns-2 c = simp (c .neg .ensures, c .before .if1 .left)
 
 pub faced-spec : {M : Type 1} → statement M
-faced-spec = tie.close (tie.spec neg-requires returns returns-2)
+faced-spec = tie.close (tie.spec (λ c κs. search needs) returns returns-2)

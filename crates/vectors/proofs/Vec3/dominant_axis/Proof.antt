@@ -6,24 +6,6 @@ use mathlib.Core.Path.{sym, _∙_, ap}
 use Rattle.vectors.proofs.Vec3.dominant_axis.Statement.{statement}
 use Rattle.vectors.proofs.Vec3.dominant_axis.Tie as tie
 
-is-within3-requires : tie.Need-is-within3-requires
-is-within3-requires c κs = search needs
-
-fails-requires : tie.Need-fails-requires
-fails-requires c κs = search needs
-
-fabs-requires : tie.Need-fabs-requires
-fabs-requires c κs = search needs
-
-fabs-requires-2 : tie.Need-fabs-requires-2
-fabs-requires-2 c κs = search needs
-
-fabs-requires-3 : tie.Need-fabs-requires-3
-fabs-requires-3 c κs = search needs
-
-largest-requires : tie.Need-largest-requires
-largest-requires c κs = search needs
-
 returns : tie.Need-returns
 unfolding dominantAxisDue
 returns c =
@@ -38,11 +20,11 @@ pub dominant-axis-spec : {M : Type 1} → statement M
 dominant-axis-spec =
     tie.close
     (tie.spec
-    is-within3-requires
-    fails-requires
-    fabs-requires
-    fabs-requires-2
-    fabs-requires-3
-    largest-requires
+    (λ c κs. search needs)
+    (λ c κs. search needs)
+    (λ c κs. search needs)
+    (λ c κs. search needs)
+    (λ c κs. search needs)
+    (λ c κs. search needs)
     returns
     returns-2)

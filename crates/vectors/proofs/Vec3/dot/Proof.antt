@@ -7,21 +7,6 @@ use mathlib.Core.Path.{sym}
 use Rattle.vectors.proofs.Vec3.dot.Statement.{statement}
 use Rattle.vectors.proofs.Vec3.dot.Tie as tie
 
-are-within-requires : tie.Need-are-within-requires
-are-within-requires c κs = search needs
-
-fails-requires : tie.Need-fails-requires
-fails-requires c κs = search needs
-
-dot-requires : tie.Need-dot-requires
-dot-requires c κs = search needs
-
-note-requires : tie.Need-note-requires
-note-requires c κs = search needs
-
-settle-requires : tie.Need-settle-requires
-settle-requires c κs = search needs
-
 returns : tie.Need-returns
 unfolding dotDue
 returns c = simp (c .settle .ensures, c .before .note .ensures, c .before .before .dot .ensures, c .before .before .before .if1 .taken, passing-none, ← c .before .before .before .before .fails .ensures, ← c .before .before .before .before .before .are-within .ensures, checked-rules, vectors-rules)
@@ -34,10 +19,10 @@ pub dot-spec : {M : Type 1} → statement M
 dot-spec =
     tie.close
     (tie.spec
-    are-within-requires
-    fails-requires
-    dot-requires
-    note-requires
-    settle-requires
+    (λ c κs. search needs)
+    (λ c κs. search needs)
+    (λ c κs. search needs)
+    (λ c κs. search needs)
+    (λ c κs. search needs)
     returns
     returns-2)

@@ -6,18 +6,6 @@ use mathlib.Core.Path.{sym}
 use Rattle.vectors.proofs.Vec3.negation.Statement.{statement}
 use Rattle.vectors.proofs.Vec3.negation.Tie as tie
 
-is-within3-requires : tie.Need-is-within3-requires
-is-within3-requires c κs = search needs
-
-fails-requires : tie.Need-fails-requires
-fails-requires c κs = search needs
-
-neg-requires : tie.Need-neg-requires
-neg-requires c κs = search needs
-
-tried-requires : tie.Need-tried-requires
-tried-requires c κs = search needs
-
 returns : tie.Need-returns
 unfolding negationDue
 returns c = simp (c .tried .ensures, c .before .neg .ensures, c .before .before .if1 .taken, passing-none, ← c .before .before .before .fails .ensures, ← c .before .before .before .before .is-within3 .ensures, vectors-rules)
@@ -29,4 +17,4 @@ returns-2 c = simp (← c .before .fails .ensures, ← c .before .before .is-wit
 pub negation-spec : {M : Type 1} → statement M
 negation-spec =
     tie.close
-    (tie.spec is-within3-requires fails-requires neg-requires tried-requires returns returns-2)
+    (tie.spec (λ c κs. search needs) (λ c κs. search needs) (λ c κs. search needs) (λ c κs. search needs) returns returns-2)

@@ -6,18 +6,6 @@ use mathlib.Core.Path.{sym}
 use Rattle.vectors.proofs.Vec3.times.Statement.{statement}
 use Rattle.vectors.proofs.Vec3.times.Tie as tie
 
-is-within-times-requires : tie.Need-is-within-times-requires
-is-within-times-requires c κs = search needs
-
-fails-requires : tie.Need-fails-requires
-fails-requires c κs = search needs
-
-times-requires : tie.Need-times-requires
-times-requires c κs = search needs
-
-tried-requires : tie.Need-tried-requires
-tried-requires c κs = search needs
-
 returns : tie.Need-returns
 unfolding timesDue
 returns c = simp (c .tried .ensures, c .before .times .ensures, c .before .before .if1 .taken, passing-none, ← c .before .before .before .fails .ensures, ← c .before .before .before .before .is-within-times .ensures, vectors-rules)
@@ -30,9 +18,9 @@ pub times-spec : {M : Type 1} → statement M
 times-spec =
     tie.close
     (tie.spec
-    is-within-times-requires
-    fails-requires
-    times-requires
-    tried-requires
+    (λ c κs. search needs)
+    (λ c κs. search needs)
+    (λ c κs. search needs)
+    (λ c κs. search needs)
     returns
     returns-2)

@@ -7,12 +7,6 @@ use mathlib.Core.Path.{sym, _∙_}
 use Rattle.vectors.proofs.Vec3.to_array.Statement.{statement}
 use Rattle.vectors.proofs.Vec3.to_array.Tie as tie
 
-is-within3-requires : tie.Need-is-within3-requires
-is-within3-requires c κs = search needs
-
-fails-requires : tie.Need-fails-requires
-fails-requires c κs = search needs
-
 returns : tie.Need-returns
 unfolding toArrayDue
 returns c = simp (c .if1 .taken, passing-none, ← c .before .fails .ensures, ← c .before .before .is-within3 .ensures, checked-rules)
@@ -22,4 +16,4 @@ unfolding toArrayDue
 returns-2 c = simp (← c .before .fails .ensures, ← c .before .before .is-within3 .ensures) (settled-some _ _ (c .if1 .left) ∙ sym (passing-some _ _ (c .if1 .left)))
 
 pub to-array-spec : {M : Type 1} → statement M
-to-array-spec = tie.close (tie.spec is-within3-requires fails-requires returns returns-2)
+to-array-spec = tie.close (tie.spec (λ c κs. search needs) (λ c κs. search needs) returns returns-2)

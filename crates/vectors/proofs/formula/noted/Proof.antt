@@ -4,17 +4,8 @@ use Rattle.vectors.specs.Laws.{nines-are}
 use Rattle.vectors.proofs.formula.noted.Statement.{statement}
 use Rattle.vectors.proofs.formula.noted.Tie as tie
 
-note-requires : tie.Need-note-requires
-note-requires c κs = search needs
-
-note-requires-2 : tie.Need-note-requires-2
-note-requires-2 c κs = search needs
-
-note-requires-3 : tie.Need-note-requires-3
-note-requires-3 c κs = search needs
-
 returns : tie.Need-returns
 returns c = simp (c .note3 .ensures, c .before .note2 .ensures, c .before .before .note .ensures, first-assoc, nines-are)
 
 pub noted-spec : {M : Type 1} → statement M
-noted-spec = tie.close (tie.spec note-requires note-requires-2 note-requires-3 returns)
+noted-spec = tie.close (tie.spec (λ c κs. search needs) (λ c κs. search needs) (λ c κs. search needs) returns)

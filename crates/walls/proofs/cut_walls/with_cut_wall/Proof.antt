@@ -5,15 +5,6 @@ use Rattle.walls.specs.Entries.{wallDue}
 use Rattle.walls.proofs.cut_walls.with_cut_wall.Statement.{statement}
 use Rattle.walls.proofs.cut_walls.with_cut_wall.Tie as tie
 
-tried-wall-requires : tie.Need-tried-wall-requires
-tried-wall-requires c κs = search needs
-
-over-requires : tie.Need-over-requires
-over-requires c κs = search needs
-
-settle-requires : tie.Need-settle-requires
-settle-requires c κs = search needs
-
 returns : tie.Need-returns
 unfolding wallDue
 returns c = simp (c .settle .ensures, c .before .over .ensures .0, c .before .over .ensures .1, c .before .before .if1 .taken, passing-none, ← c .before .before .before .tried-wall .ensures)
@@ -26,8 +17,8 @@ pub with-cut-wall-spec : {M : Type 1} → statement M
 with-cut-wall-spec =
     tie.close
     (tie.spec
-    tried-wall-requires
-    over-requires
-    settle-requires
+    (λ c κs. search needs)
+    (λ c κs. search needs)
+    (λ c κs. search needs)
     returns
     returns-2)

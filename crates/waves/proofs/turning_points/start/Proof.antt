@@ -6,15 +6,9 @@ use mathlib.Core.Path.{sym, _∙_}
 use Rattle.waves.proofs.turning_points.start.Statement.{statement}
 use Rattle.waves.proofs.turning_points.start.Tie as tie
 
-ceil-requires : tie.Need-ceil-requires
-ceil-requires c κs = search needs
-
-note-requires : tie.Need-note-requires
-note-requires c κs = search needs
-
 returns : tie.Need-returns
 unfolding startC
 returns c = ((simp (c .note .ensures, c .before .ceil .ensures, zero-first)) ∙ sym (start-refusal (c .before .before .before .before .args .t) (c .before .before .before .before .args .lo)), simp (c .before .ceil .ensures))
 
 pub start-spec : {M : Type 1} → statement M
-start-spec = tie.close (tie.spec ceil-requires note-requires returns)
+start-spec = tie.close (tie.spec (λ c κs. search needs) (λ c κs. search needs) returns)

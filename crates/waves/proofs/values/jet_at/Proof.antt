@@ -6,21 +6,6 @@ use mathlib.Core.Path.{sym, _∙_}
 use Rattle.waves.proofs.values.jet_at.Statement.{statement}
 use Rattle.waves.proofs.values.jet_at.Tie as tie
 
-sincos-requires : tie.Need-sincos-requires
-sincos-requires c κs = search needs
-
-note-requires : tie.Need-note-requires
-note-requires c κs = search needs
-
-note-requires-2 : tie.Need-note-requires-2
-note-requires-2 c κs = search needs
-
-note-requires-3 : tie.Need-note-requires-3
-note-requires-3 c κs = search needs
-
-note-requires-4 : tie.Need-note-requires-4
-note-requires-4 c κs = search needs
-
 returns : tie.Need-returns
 unfolding derivativesC
 returns c = ((simp (c .note4 .ensures, c .before .note3 .ensures, c .before .before .note2 .ensures, c .before .before .before .note .ensures, c .before .before .before .before .before .before .before .before .before .before .sincos .ensures .0, c .before .before .before .before .before .before .before .before .before .before .sincos .ensures .1 .0, c .before .before .before .before .before .before .before .before .before .before .sincos .ensures .1 .1, first-assoc)) ∙ sym (jet-refusal (c .before .before .before .before .before .before .before .before .before .before .before .args .a) (c .before .before .before .before .before .before .before .before .before .before .before .args .b) (c .before .before .before .before .before .before .before .before .before .before .before .args .c) (c .before .before .before .before .before .before .before .before .before .before .before .args .u) (c .before .before .before .before .before .before .before .before .before .before .before .args .n)), simp (c .before .before .before .before .before .before .before .before .before .before .sincos .ensures .1 .0, c .before .before .before .before .before .before .before .before .before .before .sincos .ensures .1 .1))
@@ -29,9 +14,9 @@ pub jet-at-spec : {M : Type 1} → statement M
 jet-at-spec =
     tie.close
     (tie.spec
-    sincos-requires
-    note-requires
-    note-requires-2
-    note-requires-3
-    note-requires-4
+    (λ c κs. search needs)
+    (λ c κs. search needs)
+    (λ c κs. search needs)
+    (λ c κs. search needs)
+    (λ c κs. search needs)
     returns)

@@ -6,18 +6,9 @@ use mathlib.Core.Path.{sym, _∙_}
 use Rattle.waves.proofs.values.with_slope.Statement.{statement}
 use Rattle.waves.proofs.values.with_slope.Tie as tie
 
-sincos-requires : tie.Need-sincos-requires
-sincos-requires c κs = search needs
-
-note-requires : tie.Need-note-requires
-note-requires c κs = search needs
-
-note-requires-2 : tie.Need-note-requires-2
-note-requires-2 c κs = search needs
-
 returns : tie.Need-returns
 unfolding withSlopeC
 returns c = ((simp (c .note2 .ensures, c .before .note .ensures, c .before .before .before .before .before .before .sincos .ensures .0, c .before .before .before .before .before .before .sincos .ensures .1 .0, c .before .before .before .before .before .before .sincos .ensures .1 .1, first-assoc)) ∙ sym (withSlope-refusal (c .before .before .before .before .before .before .before .args .a) (c .before .before .before .before .before .before .before .args .b) (c .before .before .before .before .before .before .before .args .c) (c .before .before .before .before .before .before .before .args .u) (c .before .before .before .before .before .before .before .args .n)), simp (c .before .before .before .before .before .before .sincos .ensures .1 .0, c .before .before .before .before .before .before .sincos .ensures .1 .1))
 
 pub with-slope-spec : {M : Type 1} → statement M
-with-slope-spec = tie.close (tie.spec sincos-requires note-requires note-requires-2 returns)
+with-slope-spec = tie.close (tie.spec (λ c κs. search needs) (λ c κs. search needs) (λ c κs. search needs) returns)

@@ -4,24 +4,6 @@ use Rattle.walls.specs.CutWalls.{wallC}
 use Rattle.walls.proofs.cut_walls.formula.over.Statement.{statement}
 use Rattle.walls.proofs.cut_walls.formula.over.Tie as tie
 
-run-requires : tie.Need-run-requires
-run-requires c κs = search needs
-
-quadrature-pieces-requires : tie.Need-quadrature-pieces-requires
-quadrature-pieces-requires c κs = search needs
-
-strip-of-requires : tie.Need-strip-of-requires
-strip-of-requires c κs = search needs
-
-earlier-requires : tie.Need-earlier-requires
-earlier-requires c κs = search needs
-
-earlier-requires-2 : tie.Need-earlier-requires-2
-earlier-requires-2 c κs = search needs
-
-along-requires : tie.Need-along-requires
-along-requires c κs = search needs
-
 returns : tie.Need-returns
 unfolding wallC
 returns c =
@@ -35,10 +17,10 @@ pub over-spec : {M : Type 1} → statement M
 over-spec =
     tie.close
     (tie.spec
-    run-requires
-    quadrature-pieces-requires
-    strip-of-requires
-    earlier-requires
-    earlier-requires-2
-    along-requires
+    (λ c κs. search needs)
+    (λ c κs. search needs)
+    (λ c κs. search needs)
+    (λ c κs. search needs)
+    (λ c κs. search needs)
+    (λ c κs. search needs)
     returns)
