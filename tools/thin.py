@@ -3,7 +3,7 @@
 
 Run in the repository. Of two shapes, each in a file of crates/CRATE/src:
   - a store, `pub fn store_X(a: ANSWER, out: &mut [T; n]) -> u32`, a `match` of `Value` (or the like) and `Refused`:
-    its two clauses unfold `numberOf`, `after` and `over` of the crate `records`;
+    its two clauses unfold `numberOf`, `after` and `over` of the crate `c_arrays`;
   - a C function, `pub extern "C" fn F(..) -> u32`: `let`s that each make one call, then `store_X(CALL(..), out)`; or the same in
     `if TEST(..) { .. } else { UNKNOWN_TAG }`. What the store ensures, with each call's fact put in, is what the function ensures. The
     store may write to several lent arrays: `store_X(CALL(..), out, tags)`.

@@ -1,6 +1,6 @@
 -- The arc of an edge: counterclockwise about `axis`, around `center`, from the direction of one
--- point to that of another. Its parts stand in the formulas of crates sweeps, spokes, extremes and
--- cuts.
+-- point to that of another. Its parts stand on the pages `Sweep`, `Points`, `Extremes`
+-- and `Chords`.
 use Rattle.checked.specs.Checked.{Checked, first, _>>=_, given}
 use Rattle.vectors.specs.Vectors.{negC}
 use Rattle.arcs.specs.declared.Arc.{Arc}

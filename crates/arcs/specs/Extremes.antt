@@ -29,8 +29,9 @@ bothC center radius sweep turn w len = do
   q ← sideC center radius w len (neg one)
   takenC sweep turn p ⧺ takenC sweep turn q
 
--- Extreme along e, which is laid across the arc's axis twice. There are no candidates where nothing
--- is left of it.
+-- The circle's points farthest along e and against it lie along what e has across the arc's axis; there are none where
+-- that is nothing. It is taken across twice: where e is along the axis but for rounding, what once leaves is noise that
+-- does not lie in the circle's plane.
 unfoldable pub extremesC : Vec3 → Vec3 → Float → (Vec3 → Checked Float) → Float → Vec3 → Checked (List Vec3)
 extremesC center axis radius sweep turn e = do
   w ← acrossC axis e

@@ -21,7 +21,7 @@ sweepFromC center axis u p = do
   a ← atan2C (vec axis ⊡ (vec u ⨯ vec v)) (vec u ⊡ vec v)
   aheadC a
 
--- the angle turned from `from` to `to`, in (0, 2π] (`sweep-answer` of crates/turns)
+-- the angle turned from `from` to `to`, in (0, 2π] (`sweep-answer` of crates/arc_theorems)
 unfoldable pub sweepC : Vec3 → Vec3 → Vec3 → Vec3 → Checked Float
 sweepC center axis from to = do
   u ← vec from ⊟ vec center

@@ -1,5 +1,5 @@
-// The arc of an edge: what a program may call. The formulas are in crates sweeps, spokes, extremes
-// and cuts, on the parts of an arc.
+// The arc of an edge: what a program may call. The formulas are in `sweep`, `points`,
+// `extremes` and `chords`, on the parts of an arc.
 ghost use mathlib.Core.Path.{_≡_};
 ghost use Rattle.checked.specs.Checked.{numberDue, settled};
 ghost use Rattle.checked.specs.Answers.{numberOf, Lent};

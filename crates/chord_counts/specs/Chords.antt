@@ -15,8 +15,9 @@ fewest = ofBits binary64 0x4028_0000_0000_0000
 abbrev pub most : Float
 most = ofBits binary64 0x4050_0000_0000_0000
 
--- where the chord is below the radius: π over half the angle of a chord that is `chord` off the
--- circle. The quotient is infinite for a chord of 0, and is not tried.
+-- A chord over the angle a of a circle is radius·(1 − cos(a/2)) off it. So where the chord handed in is below the
+-- radius, half the angle is the arc cosine of 1 − chord/radius, and a full turn takes π over that many chords. The
+-- quotient is infinite for a chord of 0, and is not tried.
 unfoldable pub quotientC : Float → Float → Checked Float
 quotientC radius chord = do
   a ← acosC (num one ⊖ num chord ⊘ num radius)
@@ -30,7 +31,7 @@ chordsC radius chord = cond (lt chord radius) (quotientC radius chord) (given ze
 unfoldable pub clamped : Float → Float
 clamped x = cond (lt x fewest) fewest (cond (lt most x) most x)
 
--- the chords of a full turn: a whole number from 12 to 64 (`per-turn-range` of crates/turns), as
+-- the chords of a full turn: a whole number from 12 to 64 (`per-turn-range` of crates/arc_theorems), as
 -- an f64
 unfoldable pub perTurnC : Float → Float → Checked Float
 perTurnC radius chord = do

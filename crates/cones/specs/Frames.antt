@@ -20,7 +20,8 @@ leastAxis x y z =
     cond (ltb (size y) (size x)) (cond (ltb (size z) (size y)) along-z along-y)
     (cond (ltb (size z) (size x)) along-z along-x)
 
--- `frame`: e1 lies across the axis, on the side of the coordinate axis that is the farthest from it
+-- `frame`: e1 lies across the axis, on the side of the coordinate axis that is the farthest from it, of which the most
+-- is left there.
 unfoldable pub frameC : Cone → Checked Frame
 frameC c = do
   x ← vec along-x ⊡ vec (c .axis)

@@ -2,7 +2,7 @@
 // ahead of it and behind it: their sweeps, by bit pattern; and from (5, 0, 0), where the least
 // number ahead is lost since its arctangent rounds to 0. Then a million arcs between drawn
 // points, half of them a few bits apart: each is a full circle exactly where its arctangent lies in
-// [-2^-51, 0], as crates/turns proves.
+// [-2^-51, 0], as crates/arc_theorems proves.
 use arcs::Arc;
 use checked::Number;
 use checked::TAU;

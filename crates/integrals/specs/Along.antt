@@ -1,5 +1,9 @@
 -- The integral along a path, t ↦ (θ, z, dθ/dt) for t from 0 to 1: −∫ P(θ, z) dθ, where P(θ, z) =
 -- ∫₀ᶻ f(θ, s) ds.
+-- By Green's theorem the integral over a face in the coordinates (θ, z) is one along its outline. An edge along the
+-- axis adds nothing, since θ is the same all along it; so only the curves are paths. P is taken by Simpson's rule,
+-- exactly, since f is cubic in s at most; along the path what is integrated is smooth, and the rule of Gauss and
+-- Legendre on stretches of at most 45° is exact but for rounding.
 use Prim.Native.Nat.{ℕ}
 use lib.Ieee.{Float}
 use Rattle.checked.specs.Checked.{Checked, _>>=_}

@@ -32,7 +32,10 @@ radialNormalC v theta = do
   normal ← vec out ⊟ vec (v .frame .axis) ⊠ num (v .slope)
   given (record { out = out; normal = normal })
 
--- the eight integrands, without the sign of the normal
+-- What is integrated, without the sign of the normal, which the way a face's outline runs in (θ, z) takes care of.
+-- `height` is (x − o)·n: twice its integral is six times the volume of the cone from o over the face, and six times
+-- that of x·height 24 times the cone's first moment. The cones over all faces of a closed surface add up to the body,
+-- whatever each face's shape.
 unfoldable pub patchC : Revolved → RadialNormal → Float → Checked SurfaceIntegrals
 patchC v b s = do
   r ← num (v .radius) ⊕ num (v .slope) ⊗ num s

@@ -1,5 +1,7 @@
 -- The cases of libm 0.2.1's arccosine, operation by operation: acos.rs, with its names for
 -- constants and variables. Definitions only. libm's square root is IEEE 754's.
+-- Method: near 0, π/2 less the arcsine, x plus x times a ratio of polynomials in x²; towards 1 and −1 by the half
+-- angle, twice the arcsine of √((1 − |x|) / 2), whose root is taken in two parts.
 use Prim.Native.Nat.{ℕ}
 use lib.Dec.{leb, eqb}
 use lib.Ieee.{Float, binary64}

@@ -1,5 +1,7 @@
 -- The arctangent of libm 0.2.1, operation by operation: atan.rs, with its names for constants and
 -- variables. Definitions only. Operations that libm makes only to raise a flag are left out.
+-- Method: arctan x = arctan c + arctan((x − c) / (1 + c·x)) with c of 1/2, 1, 3/2 or infinity, whichever is near,
+-- leaves an x of at most 7/16, for which an odd polynomial serves; arctan c is added in two parts.
 use Prim.Native.Nat.{ℕ}
 use lib.Dec.{leb, ltb}
 use lib.Ieee.{Float, neg, isNan}

@@ -1,5 +1,7 @@
 -- The angle of a point by libm 0.2.1, operation by operation: atan2.rs, with its names for
--- constants and variables, over the arctangent (crate atan). Definitions only.
+-- constants and variables, over the arctangent (`atan`). Definitions only.
+-- Method: the arctangent of |y/x|, then the quadrant by the signs; where the quotient is too large or too small to
+-- matter, the angle is known without it.
 use Prim.Native.Nat.{ℕ, _+_, _%_, _*_, _^_}
 use mathlib.Core.Bool.{Bool, _&&_, _||_}
 use lib.Dec.{ltb, eqb}

@@ -1,5 +1,7 @@
 -- libm 0.2.1's hypotenuse of two patterns, operation by operation: hypot.rs, with its names for
 -- constants and variables. Definitions only. libm's square root is IEEE 754's.
+-- Method: both numbers are scaled so that no square is lost, and each square is taken in two parts, by halves of 26 and
+-- 27 bits, before the sum's root.
 use Prim.Native.Nat.{ℕ, _+_, _-_, _/_, _^_}
 use mathlib.Core.Bool.{_||_}
 use lib.Dec.{ltb, eqb}

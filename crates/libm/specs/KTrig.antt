@@ -1,5 +1,7 @@
 -- The kernels of sine and cosine of libm 0.2.1, operation by operation: k_sin.rs and k_cos.rs, with
 -- their names for constants and variables. Definitions only.
+-- Method: on [−π/4, π/4] an odd and an even polynomial of least greatest error; y is what the angle x was short of, and
+-- counts to first order.
 use lib.Ieee.{Float}
 use Rattle.checked.specs.Numbers.{half, one, literal}
 use Rattle.float_bits.specs.FloatBits.{_+ᶠ_, _-ᶠ_, _*ᶠ_}

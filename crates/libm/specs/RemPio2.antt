@@ -2,6 +2,8 @@
 -- what is left of an angle when n quarter turns are taken off, as y0 + y1. Definitions only. It is
 -- due at angles of at most 1,048,576 in magnitude, where it never comes to its case of large angles
 -- (`never-large` of specs/Laws.antt).
+-- Method: the nearest whole number of quarter turns is taken off with π/2 in parts of 33 bits, so that each product is
+-- exact; where most bits cancel, the next part is taken too.
 use Prim.Native.Nat.{ℕ, _-_, _/_, _%_, _^_}
 use lib.IntN.{ℤ, pos, negsuc}
 use lib.Dec.{leb, ltb, eqb}

@@ -1,5 +1,5 @@
--- Arccosine and hypotenuse of libm 0.2.1: the tests of acos.rs over its cases (crate arccosine),
--- then hypot.rs, whose work is on the two patterns (crate hypotenuse). Definitions only.
+-- Arccosine and hypotenuse of libm 0.2.1: the tests of acos.rs over its cases (`acos`),
+-- then hypot.rs, whose work is on the two patterns (`hypot`). Definitions only.
 use lib.Dec.{leb, ltb, eqb}
 use lib.Ieee.{Float}
 use Rattle.checked.specs.Patterns.{high-word}

@@ -1,5 +1,5 @@
 -- Sine and cosine of libm 0.2.1, operation by operation: sin.rs and sincos.rs, over the kernels
--- (crate kernels) and the reduction of an angle (crate reduction), with libm's names for constants
+-- (`k_trig`) and the reduction of an angle (`rem_pio2`), with libm's names for constants
 -- and variables. Definitions only. They are due at angles of at most 1,048,576 in magnitude.
 -- Operations that libm makes only to raise a flag are left out.
 use Prim.Native.Nat.{ℕ}

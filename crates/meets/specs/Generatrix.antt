@@ -13,7 +13,8 @@ use Rattle.meets.specs.declared.generatrix.SecondDerivatives.{SecondDeri
 use Rattle.meets.specs.declared.generatrix.Jet.{Jet}
 
 -- ---- what the derivatives share
--- (A·t + B)·t' = −(B'·t + C'/2); A·t + B is −root
+-- The quadratic holds at every angle. Its derivative there is 2(A·t + B)·t' + 2B'·t + C' = 0, and A·t + B is −root at
+-- the lesser root, so t' = (B'·t + C'/2) / root.
 unfoldable pub firstDerivativesC : Pipe → Intersection → Checked FirstDerivatives
 firstDerivativesC p h = do
   d1 ← (vec (p .e2) ⊠ num (h .c) ⊟ vec (p .e1) ⊠ num (h .s)) ⊠ num (p .r)
@@ -23,7 +24,7 @@ firstDerivativesC p h = do
   t1 ← (num b1 ⊗ num (h .t) ⊕ num half ⊗ num c1) ⊘ num (h .root)
   given (record { d1 = d1; w1 = w1; b1 = b1; t1 = t1 })
 
--- and once more
+-- and once more: t'' = (B''·t + 2B'·t' + A·t'² + C''/2) / root
 unfoldable pub secondDerivativesC : Pipe → Intersection → FirstDerivatives → Checked SecondDerivatives
 secondDerivativesC p h v = do
   d2 ← vec (h .around) ⊠ minus (num (p .r))

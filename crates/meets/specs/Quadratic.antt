@@ -28,7 +28,9 @@ otherC o axis radius own = do
   given (record { o = o; a = axis; e1 = e1; e2 = e2; r = radius; mo = origin; ma = along-z; mr = own })
 
 -- ---- along the generatrix
--- |w + t·a|² = R²: A·t² + 2B·t + C = 0, with the root of B² − A·C
+-- The generatrix p₀ + t·a lies on the cylinder met where what it has across that cylinder's axis, w + t·af, is as long
+-- as its radius R: |w + t·af|² = R². That is A·t² + 2B·t + C = 0 with A = af·af, B = w·af, C = w·w − R², and `root` is
+-- the square root of B² − A·C.
 abbrev pub quadraticC : Vec3 → Vec3 → Float → Checked Quadratic
 quadraticC w af mr = do
   aa ← vec af ⊡ vec af
@@ -37,7 +39,8 @@ quadraticC w af mr = do
   root ← sqrtC (num b ⊗ num b ⊖ num aa ⊗ num cc)
   given (record { aa = aa; b = b; cc = cc; root = root })
 
--- the lesser root without cancellation
+-- The lesser of (−B ± root) / A. Where B is above 0 it is −(B + root) / A; else it is C / (root − B), since the two
+-- roots multiply to C / A: so no two numbers of nearly one size are subtracted.
 unfoldable pub lesserC : Quadratic → Checked Float
 lesserC q =
     cond

@@ -63,7 +63,8 @@ widened b p = record {
   high = plane (greatest (b .high .x) (p .x)) (greatest (b .high .y) (p .y));
 }
 
--- the box with the turning point between two samples, where their derivatives differ in sign
+-- A coordinate turns between two samples where its derivative differs in sign there: the box with the point where it
+-- does. 60 halvings of a 64th leave a gap that no f64 of t near 1 tells from a point.
 unfoldable pub bracketC : MeetCurve → Bool → ℕ → Float → Float → FlatBox → Checked FlatBox
 bracketC c upright k d0 d1 b =
     cond

@@ -24,7 +24,8 @@ endArcC origin axis start neutral radius u0 u1 v = do
 unfoldable pub endArcsC : Vec3 → Vec3 → Vec3 → Float → Float → FlatBox → Checked (List Vec3)
 endArcsC origin axis start neutral radius b = endArcC origin axis start neutral radius (b .low .x) (b .high .x) (b .low .y) ⧺ endArcC origin axis start neutral radius (b .low .x) (b .high .x) (b .high .y)
 
--- those of a piece, by its box in the development
+-- A piece lies in its box in the development, and that box rolled up is held by the two arcs about the axis at its ends
+-- along v.
 unfoldable pub pointsC : Vec3 → Vec3 → Vec3 → Float → PieceCurve → Checked (List Vec3)
 pointsC origin axis start radius r = do
   b ← boxC r

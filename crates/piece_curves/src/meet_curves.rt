@@ -87,7 +87,7 @@ pub fn angle(c: MeetCurve, t: f64) -> f64
     }
 }
 
-// `reach` of `pipes` and `speed_at` of `reaches` once more: with one call each they become a part
+// `intersect` of `quadratic` and `speed_at` of `generatrix` once more: with one call each they become a part
 // of `moved`, and their many numbers stay in registers.
 fn reach_here(p: Pipe, phi: f64) -> CheckedIntersection
     ensures refusal { λ r. ⌜ r .refusal ≡ intersectionC p phi .refusal ⌝ }

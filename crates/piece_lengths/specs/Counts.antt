@@ -21,6 +21,8 @@ use Rattle.piece_lengths.specs.SecondDerivatives.{meetC}
 use Rattle.piece_lengths.specs.Measures.{measureC}
 
 -- ---- at most 45° each, in the development and about the axis
+-- At most 45° each, in the development and about the axis: there the rule of Gauss and Legendre with 8 points is exact
+-- but for rounding.
 unfoldable pub quadratureC : PieceCurve → Checked ℕ
 quadratureC r = do
   m ← measureC r
@@ -29,7 +31,8 @@ quadratureC r = do
   countC x one MOST
 
 -- ---- chords for drawing at a distance from the axis
--- of a full turn of the piece's own: a trace takes the most, an arc what its radius asks for
+-- Of a full turn of the piece's own: an arc takes what its radius asks for. A trace has no radius of its own, so its
+-- turn is drawn at the finest.
 abbrev pub ownBy : CurveKind → Float → Float → Checked Float
 ownBy way.Straight rho chord = perTurnC rho chord
 ownBy (way.Arc a) rho chord = perTurnC rho chord
@@ -62,7 +65,8 @@ steepC du amp n = do
   x ← num amp ⊘ num n
   num (fabs du) ⊗ sqrtC (num one ⊕ num x ⊗ num x)
 
--- a wave bends at most its amplitude over the neutral radius squared
+-- A chord over a length h is off a curve by at most h²/8 of its greatest second derivative, so a length takes
+-- length·√(bend / (8·deviation)) chords. A wave bends at most its amplitude over the neutral radius squared.
 unfoldable pub offC : Float → Float → Float → Float → Checked Float
 offC length amp n deviation = num length ⊗ sqrtC (num amp ⊘ (num n ⊗ num n) ⊘ (num EIGHT ⊗ num deviation))
 
@@ -91,7 +95,8 @@ SAMPLES = 257
 unfoldable pub bendC : MeetCurve → Checked Float
 bendC c = foldC SAMPLES (sampleC c) zero
 
--- along a meet
+-- The same over t, from 0 to 1, with the greatest second derivative in t among the samples: √(bend / (8·deviation))
+-- chords.
 unfoldable pub meetLineC : MeetCurve → Float → Checked ℕ
 meetLineC c deviation = do
   bend ← bendC c

@@ -54,7 +54,7 @@ struct Levelled {
     rz: u8,
 }
 
-// `reach` of `pipes` once more: with one call it becomes a part of `levels`, and the pipe is not
+// `intersect` of `quadratic` once more: with one call it becomes a part of `levels`, and the pipe is not
 // copied.
 fn reach_here(p: Pipe, phi: f64) -> CheckedIntersection
     ensures refusal { λ r. ⌜ r .refusal ≡ intersectionC p phi .refusal ⌝ }

@@ -11,8 +11,9 @@ use Rattle.vectors.specs.Vectors.{plane, space, vec, _⊟_, _⊠_, _⊡_}
 use Rattle.piece_curves.specs.declared.meet_curves.MeetCurve.{MeetCurve}
 use Rattle.piece_curves.specs.MeetCurves as courses
 
--- The gradient at p of half the square of the distance from the pipe's axis, of the point at p on
--- the cylinder of radius `own`.
+-- A hole's edge runs where the distance from the pipe's axis is the pipe's radius, along a level line of that distance
+-- on the cylinder of radius `own`. A level line runs across the gradient. Here is the gradient at p of half the square
+-- of the distance.
 unfoldable pub gradientC : Vec3 → Vec3 → Float → Float → Vec2 → Checked Vec2
 gradientC origin axis own n p = do
   phi ← num (p .x) ⊘ num n

@@ -185,7 +185,7 @@ pub fn normal_of(axis: Vec3, start: Vec3, n: f64, p: Vec2, d: Vec2, r: f64) -> C
     ensures refusal { λ v. ⌜ v .refusal ≡ normalC axis start n p d r .refusal ⌝ }
     ensures value { λ v. ⌜ v .value ≡ normalC axis start n p d r .value ⌝ }
 {
-    // `along` of `rolls` would work out the radial again.
+    // `along` of `developments` would work out the radial again.
     let a = radial(axis, start, n, p.x);
     let av = a.value;
     let b = plus(times(cross(axis, av), d.x * r / n), times(axis, d.y));

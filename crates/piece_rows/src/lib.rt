@@ -1,4 +1,4 @@
-// The inner points of a piece of a development, written to a lent row as crate rims writes those of
+// The inner points of a piece of a development, written to a lent row as `rows::circles` writes those of
 // a circle. Numbers may be of any size.
 ghost use mathlib.Core.Path.{_≡_};
 ghost use mathlib.Core.Bool.{cond};

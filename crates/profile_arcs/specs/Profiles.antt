@@ -21,7 +21,7 @@ abbrev pub betweenC : Vec2 → Vec2 → Checked Float
 betweenC u v = atan2C (num (u .x) ⊗ num (v .y) ⊖ num (u .y) ⊗ num (v .x)) (num (u .x) ⊗ num (v .x) ⊕ num (u .y) ⊗ num (v .y))
 
 -- the angle that the arc turns from a to b about its centre: in (0, 2π] counterclockwise, in
--- [−2π, 0) clockwise (`turn-answer` of crates/turns)
+-- [−2π, 0) clockwise (`turn-answer` of crates/arc_theorems)
 unfoldable pub turnC : ProfileArc → Vec2 → Vec2 → Checked Float
 turnC arc a b = do
   u ← apartC (arc .center) a

@@ -31,7 +31,7 @@ sliceC turned u v n = do
   area ← num a ⊗ num (side d)
   given (record { turn = phi; rest = rest; area = area })
 
--- the slice's centroid, on the spoke to the middle of the arc
+-- The slice's centroid lies on the radius to the middle of the arc, 4·r·sin³(φ/2) / (3·(φ − sin φ)) from the centre.
 unfoldable pub centroidC : Arc → Vec3 → Slice → Checked Vec3
 centroidC turned u s = do
   t ← num half ⊗ num (s .turn)

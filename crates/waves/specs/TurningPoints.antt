@@ -14,7 +14,8 @@ use Rattle.waves.specs.declared.turning_points.Span.{Span}
 use Rattle.waves.specs.declared.turning_points.Turning.{Turning}
 use Rattle.waves.specs.declared.turning_points.RangeSoFar.{RangeSoFar}
 
--- turning points where tan(u/n) = c/b, every half turn from the first
+-- A wave turns where its derivative, (c·cos − b·sin) / n, is 0, so where tan(u/n) = c/b: at n times the angle of (b,
+-- c), and at every half turn, π·n, from there.
 unfoldable pub turningC : Float → Float → Float → Float → Float → Checked Turning
 turningC a b c n hi = do
   first' ← finite (atan2 c b) ⊗ num n

@@ -1,4 +1,6 @@
 -- `Wave::at`: v at u, and its derivatives in u. What a call reads is what it binds.
+-- A plane meets the neutral layer of a rolled sheet in an ellipse, and an ellipse rolled out is v = a + b·cos(u/n) +
+-- c·sin(u/n), exactly.
 use lib.Ieee.{Float}
 use Rattle.checked.specs.Checked.{Checked, first, _>>=_, given, finite, num, minus, _⊕_, _⊖_, _⊗_, _⊘_}
 use Rattle.libm.specs.declared.sincos.Sines.{Sines}
