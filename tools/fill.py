@@ -3,7 +3,7 @@
 
 Run in the repository. It runs `rt dev CRATE` (whose output names each file to write) and `rt dev CRATE --generated`
 (whose Lts.antt files name the places of each function), and writes crates/CRATE/proofs/FN/Proof.antt with
-  - `search needs` for each fact that is not `returns`,
+  - `search needs` for each fact that is not `returns`, taken in place (inplace.py),
   - `simp (..)` for each `returns`, one for each `ensures`, over the facts of the way there, the latest first:
     what each call ensures, which arm each `if` took, which constructor each `match` bound; then the rules.
 Where the crate's specs/Laws.antt has a law `NAME-refusal` of a definition `NAMEC` (its refusal in the notes that suffice),
@@ -18,6 +18,7 @@ The rules are the ruleset `rules` of each page …Laws.antt in the specs/ of the
 A function with a loop keeps the holes of its invariant and measure. What does not close is left for you to edit.
 """
 import os, re, subprocess, sys
+from inplace import in_place
 
 def tests_in(called, ensured):
     """the calls that give the number of the test of what was handed in that fails first, 0 for none: `checked::earlier` joins them"""
@@ -251,7 +252,7 @@ def main():
         if paths:
             uses.append('use mathlib.Core.Path.{' + ', '.join(paths) + '}')
         os.makedirs(os.path.dirname(path), exist_ok=True)
-        open(path, 'w', encoding='utf-8').write('\n'.join(uses) + '\n' + text)
+        open(path, 'w', encoding='utf-8').write(in_place('\n'.join(uses) + '\n' + text))
         print('wrote', path)
 
 main()

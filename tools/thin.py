@@ -10,6 +10,7 @@ Run in the repository. Of two shapes, each in a file of crates/CRATE/src:
 The checker judges what is written. `rt fmt` lays it out.
 """
 import os, re, sys
+from inplace import in_place
 
 def dash(name):
     return name.replace('_', '-')
@@ -30,7 +31,7 @@ def write(crate, mod, fn, uses, needs, returns):
     parts = ' '.join([n for n, _ in needs] + [n for n, _, _ in returns])
     text += f'pub {dash(fn)}-spec : {{M : Type 1}} → statement M\n{dash(fn)}-spec = tie.close (tie.spec {parts})\n'
     os.makedirs(os.path.dirname(path), exist_ok=True)
-    open(path, 'w', encoding='utf-8').write(text)
+    open(path, 'w', encoding='utf-8').write(in_place(text))
     print('wrote', path)
 
 def numbered(names, first, more):

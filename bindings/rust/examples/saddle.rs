@@ -3,7 +3,7 @@
 //!
 //!     cargo run --example saddle
 
-use std::f64::consts::TAU;
+use std::f64::consts::{PI, TAU};
 
 use juniperreef::{Bounds, Curve, Development, Meet, Refusal, Rolled, Trace, Vec2, Vec3};
 
@@ -38,7 +38,13 @@ fn main() -> Result<(), Refusal> {
     let outside = Curve::Rolled { piece: cut, radius: 33.0 };
     let end = branch.point(from, 33.0)?;
     let mut bounds = Bounds::EMPTY;
-    outside.extend_bounds(end, end, &mut bounds)?;
+    // A box call takes less than a turn: in halves.
+    for half in [0.0, 1.0] {
+        let at = |halves: f64| Vec2::new(neutral * PI * halves, start);
+        let piece = Rolled { from: at(half), to: at(half + 1.0), ..cut };
+        let half = Curve::Rolled { piece, radius: 33.0 };
+        half.extend_bounds(end, end, &mut bounds)?;
+    }
     println!("box of the outer edge: {:?} to {:?}", bounds.low.to_array(), bounds.high.to_array());
     let points = outside.inner_points_vec(end, end, 0.1)?;
     println!(

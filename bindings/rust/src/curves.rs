@@ -12,27 +12,29 @@ use crate::{Bounds, Refusal, Rigid, Rolled, Vec3};
 /// The curve of an edge: an arc, or a piece of a development at a distance from its axis.
 ///
 /// The box of a saddle, the end of a branch of radius 30 that is cut to fit a main pipe of radius
-/// 50 whose axis crosses 100 above:
+/// 50 whose axis crosses 100 above. It runs once around, so it is handed over in halves (see
+/// [`Curve::extend_bounds`]):
 ///
 /// ```
-/// use std::f64::consts::TAU;
+/// use std::f64::consts::PI;
 /// use juniperreef::{Bounds, Curve, Development, Meet, Refusal, Rolled, Trace, Vec2, Vec3};
 ///
 /// let (x, z) = (Vec3::new(1.0, 0.0, 0.0), Vec3::new(0.0, 0.0, 1.0));
 /// let dev = Development { origin: Vec3::ZERO, axis: z, start: x, neutral: 30.0 };
 /// let origin = Vec3::new(0.0, 0.0, 100.0);
 /// let main = Meet { origin, axis: x, radius: 50.0, own: 1.0, turn: None };
-/// let (from, to) = (Vec2::new(0.0, 50.0), Vec2::new(30.0 * TAU, 50.0));
-/// let piece = Rolled { dev, from, to, arc: None, trace: Some(Trace::Meet(main)) };
-/// let saddle = Curve::Rolled { piece, radius: 30.0 };
-///
 /// let mut bounds = Bounds::EMPTY;
-/// let end = Vec3::new(30.0, 0.0, 50.0);
-/// saddle.extend_bounds(end, end, &mut bounds)?;
+/// for half in [0.0, 1.0] {
+///     let from = Vec2::new(30.0 * PI * half, 50.0);
+///     let to = Vec2::new(30.0 * PI * (half + 1.0), 50.0);
+///     let piece = Rolled { dev, from, to, arc: None, trace: Some(Trace::Meet(main)) };
+///     let ends = [dev.point(from, 30.0)?, dev.point(to, 30.0)?];
+///     Curve::Rolled { piece, radius: 30.0 }.extend_bounds(ends[0], ends[1], &mut bounds)?;
+/// }
 /// // From where the branch meets the main pipe first, 50 below its axis, to where it does last.
 /// assert!((bounds.low.z - 50.0).abs() < 1e-9);
 /// assert!((bounds.high.z - 60.0).abs() < 1e-9);
-/// assert!((bounds.high.x - 30.0).abs() < 1e-9);
+/// assert!((bounds.high.x - 30.0).abs() < 1e-9 && (bounds.low.x + 30.0).abs() < 1e-9);
 /// # Ok::<(), Refusal>(())
 /// ```
 #[derive(Clone, Copy, Debug, PartialEq)]
@@ -135,7 +137,9 @@ impl Curve {
 
     /// Widens the box to hold the curve from `from` to `to`. A piece has ends of its own: there
     /// `from` and `to` are tried and not used, and the box is widened by the two arcs about the
-    /// axis at the ends of the piece's own box along `v`.
+    /// axis at the ends of the piece's own box along `v`. An arc turns at most once, so the box of a
+    /// piece over more than a turn is too small, and over exactly a turn it is up to rounding: hand
+    /// over such a piece in halves.
     #[inline]
     pub fn extend_bounds(&self, from: Vec3, to: Vec3, bounds: &mut Bounds) -> Result<(), Refusal> {
         let (from, to, corners) = (from.numbers(), to.numbers(), bounds.numbers_mut());

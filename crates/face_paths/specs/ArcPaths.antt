@@ -18,7 +18,7 @@ use Rattle.integrals.specs.Along.{pathAlongC}
 use Rattle.face_paths.specs.declared.arc_paths.ArcPath.{ArcPath}
 
 -- the angle that the arc turns about the surface's axis, the angle where it starts, its place along
--- the axis, and into how many stretches of at most 45° it is cut
+-- the axis, and into how many panels of at most 45° it is cut
 unfoldable pub arcPathOfC : Frame → Arc → Vec3 → Vec3 → Checked ArcPath
 arcPathOfC f arc u v = do
   s ← sweepC (arc .center) (arc .axis) u v

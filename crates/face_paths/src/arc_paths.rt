@@ -19,7 +19,7 @@ use vectors::formula::dot;
 use vectors::formula::minus;
 
 // An arc about the axis of a surface: the angle where it starts and the one that it turns, its
-// place along the axis, and into how many stretches of at most 45° it is cut for the integrals.
+// place along the axis, and into how many panels of at most 45° it is cut for the integrals.
 pub struct ArcPath {
     pub start: f64,
     pub turn: f64,

@@ -1,5 +1,5 @@
 // The running sums of a face after a path, an arc or a piece of a development: the loops over its
-// stretches and their nodes. Numbers may be of any size.
+// panels and their nodes. Numbers may be of any size.
 ghost use mathlib.Core.Path.{_≡_};
 ghost use Rattle.checked.specs.Checked.{first};
 ghost use Rattle.integrals.specs.Gauss.{panelAtC};
@@ -81,7 +81,7 @@ fn node_at(
     )
 }
 
-// The stretch i, of length h.
+// The panel i, of length h.
 fn panel(
     v: Revolved,
     k: FacePath,
@@ -118,7 +118,7 @@ fn panel(
     a
 }
 
-// All n stretches of the path.
+// All n panels of the path.
 fn along(v: Revolved, k: FacePath, n: u16, s: CheckedSurfaceIntegrals) -> CheckedSurfaceIntegrals
     ensures refusal { λ r. ⌜ r .refusal ≡ first (s .refusal) (pathAlongC v (facePathAt k) n (s .value) .refusal) ⌝ }
     ensures value { λ r. ⌜ r .value ≡ pathAlongC v (facePathAt k) n (s .value) .value ⌝ }

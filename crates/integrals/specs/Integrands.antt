@@ -74,7 +74,7 @@ termsC w s a b c = do
   n ← term3C w (s .«area_vector») (a .«area_vector») (b .«area_vector») (c .«area_vector»)
   given (record { «six_v» = volume; moment = m; area = area; «area_vector» = n })
 
--- half the stretch's length, the node's weight, how fast θ turns, z, and Simpson's sixth
+-- half the panel's length, the node's weight, how fast θ turns, z, and Simpson's sixth
 unfoldable pub weightC : PathPoint → Float → Float → Checked Float
 weightC p h wgt = num half ⊗ num h ⊗ num wgt ⊗ num (p .turn) ⊗ num (p .z) ⊘ num six
 

@@ -14,13 +14,13 @@ use Rattle.piece_curves.specs.Points.{atC}
 use Rattle.walls.specs.declared.Strip.{Strip}
 use Rattle.walls.specs.Walls.{stripC, nodeC}
 
--- the sums after all radii at t, on a stretch of length h
-unfoldable pub stationAtC : Strip → PieceCurve → Float → Float → Float → SurfaceIntegrals → Checked SurfaceIntegrals
-stationAtC v r h wt t s = do
+-- the sums after all radii at t, on a panel of length h
+unfoldable pub nodeAtC : Strip → PieceCurve → Float → Float → Float → SurfaceIntegrals → Checked SurfaceIntegrals
+nodeAtC v r h wt t s = do
   q ← atC r t
   nodeC v (q .p) (q .d) h wt s
 
--- `wall`: the piece and its stretches, then the wall's radii, then the sums. But for an angle that
+-- `wall`: the piece and its panels, then the wall's radii, then the sums. But for an angle that
 -- is too large on the way to the count, all that is refused before the first station is refused by
 -- 9.
 unfoldable pub wallC : Rolled → Float → Float → Vec3 → Integrals → Checked Integrals
@@ -28,5 +28,5 @@ wallC p r0 r1 o s = do
   r ← runC p
   n ← quadratureC r
   v ← stripC (p .dev .origin) (p .dev .axis) (p .dev .start) (p .dev .neutral) r0 r1 o
-  t ← alongC (stationAtC v r) n (s .surface)
+  t ← alongC (nodeAtC v r) n (s .surface)
   given (record { surface = t })

@@ -16,7 +16,7 @@ use Rattle.walls.specs.declared.Strip.{Strip}
 abbrev pub quarter : Float
 quarter = literal 0x3fd0_0000_0000_0000
 
--- what `wall` works out before its loop, but for the length of a stretch
+-- what `wall` works out before its loop, but for the length of a panel
 unfoldable pub stripC : Vec3 → Vec3 → Vec3 → Float → Float → Float → Vec3 → Checked Strip
 stripC origin axis start neutral r0 r1 o = do
   hr ← num r1 ⊖ num r0

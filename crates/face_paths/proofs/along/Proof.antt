@@ -11,7 +11,7 @@ use Rattle.face_paths.specs.Paths.{facePathAt}
 use Rattle.face_paths.proofs.along.Statement.{statement}
 use Rattle.face_paths.proofs.along.Tie as tie
 
--- i stretches are summed
+-- i panels are summed
 abbrev Inv-loop : tie.InvT-loop
 Inv-loop v k n h a₀ i₀ a i =
     let step = panelAtC (nodeAtC v (facePathAt k)) h in

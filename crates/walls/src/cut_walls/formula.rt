@@ -1,9 +1,9 @@
-// The sums of the wall over a piece, on numbers of any size: the loops over its stretches and their
-// stations.
+// The sums of the wall over a piece, on numbers of any size: the loops over its panels and their
+// nodes.
 ghost use mathlib.Core.Path.{_≡_};
 ghost use Rattle.checked.specs.Checked.{first};
 ghost use Rattle.integrals.specs.Gauss.{panelAtC, alongC};
-ghost use Rattle.walls.specs.CutWalls.{stationAtC, wallC};
+ghost use Rattle.walls.specs.CutWalls.{nodeAtC, wallC};
 use crate::Strip;
 use crate::node;
 use crate::strip_of;
@@ -31,8 +31,8 @@ fn node_at(
     t: f64,
     s: CheckedSurfaceIntegrals,
 ) -> CheckedSurfaceIntegrals
-    ensures refusal { λ a. ⌜ a .refusal ≡ first (s .refusal) (stationAtC v r h wt t (s .value) .refusal) ⌝ }
-    ensures value { λ a. ⌜ a .value ≡ stationAtC v r h wt t (s .value) .value ⌝ }
+    ensures refusal { λ a. ⌜ a .refusal ≡ first (s .refusal) (nodeAtC v r h wt t (s .value) .refusal) ⌝ }
+    ensures value { λ a. ⌜ a .value ≡ nodeAtC v r h wt t (s .value) .value ⌝ }
 {
     let q = at(r, t);
     let sums = s.value;
@@ -49,7 +49,7 @@ fn node_at(
     )
 }
 
-// The stretch i, of length h.
+// The panel i, of length h.
 fn panel(
     v: Strip,
     r: PieceCurve,
@@ -57,8 +57,8 @@ fn panel(
     i: u16,
     s: CheckedSurfaceIntegrals,
 ) -> CheckedSurfaceIntegrals
-    ensures refusal { λ a. ⌜ a .refusal ≡ first (s .refusal) (panelAtC (stationAtC v r) h i (s .value) .refusal) ⌝ }
-    ensures value { λ a. ⌜ a .value ≡ panelAtC (stationAtC v r) h i (s .value) .value ⌝ }
+    ensures refusal { λ a. ⌜ a .refusal ≡ first (s .refusal) (panelAtC (nodeAtC v r) h i (s .value) .refusal) ⌝ }
+    ensures value { λ a. ⌜ a .value ≡ panelAtC (nodeAtC v r) h i (s .value) .value ⌝ }
 {
     let mid = h * ((i as f64) + 0.5);
     let start = s.value;
@@ -86,10 +86,10 @@ fn panel(
     a
 }
 
-// All n stretches of the wall.
+// All n panels of the wall.
 fn along(v: Strip, r: PieceCurve, n: u16, s: CheckedSurfaceIntegrals) -> CheckedSurfaceIntegrals
-    ensures refusal { λ a. ⌜ a .refusal ≡ first (s .refusal) (alongC (stationAtC v r) n (s .value) .refusal) ⌝ }
-    ensures value { λ a. ⌜ a .value ≡ alongC (stationAtC v r) n (s .value) .value ⌝ }
+    ensures refusal { λ a. ⌜ a .refusal ≡ first (s .refusal) (alongC (nodeAtC v r) n (s .value) .refusal) ⌝ }
+    ensures value { λ a. ⌜ a .value ≡ alongC (nodeAtC v r) n (s .value) .value ⌝ }
 {
     let h = 1.0 / (n as f64);
     let start = s.value;

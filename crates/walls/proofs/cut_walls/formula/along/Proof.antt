@@ -6,14 +6,14 @@ use Rattle.checked.specs.Loops.{foldC}
 use Rattle.checked.specs.LoopsLaws.{Done, met, met-none, met-more}
 use Rattle.integrals.specs.Gauss.{panelAtC}
 use Rattle.integrals.specs.Laws.{along-done}
-use Rattle.walls.specs.CutWalls.{stationAtC}
+use Rattle.walls.specs.CutWalls.{nodeAtC}
 use Rattle.walls.proofs.cut_walls.formula.along.Statement.{statement}
 use Rattle.walls.proofs.cut_walls.formula.along.Tie as tie
 
--- i stretches are summed
+-- i panels are summed
 abbrev Inv-loop : tie.InvT-loop
 Inv-loop v r n h a₀ i₀ a i =
-    let step = panelAtC (stationAtC v r) h in
+    let step = panelAtC (nodeAtC v r) h in
     (i ≤ n) × Done (met (a₀ .refusal) (foldC i step (a₀ .value))) (a .refusal) (a .value)
 
 abbrev μ-loop : tie.MeasureT-loop

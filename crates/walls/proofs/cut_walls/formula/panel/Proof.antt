@@ -6,14 +6,14 @@ use Rattle.checked.specs.Laws.{first-assoc}
 use Rattle.checked.specs.Loops.{foldC}
 use Rattle.checked.specs.LoopsLaws.{Done, met, met-none, met-more}
 use Rattle.integrals.specs.Laws.{aloneC, stretch-done}
-use Rattle.walls.specs.CutWalls.{stationAtC}
+use Rattle.walls.specs.CutWalls.{nodeAtC}
 use Rattle.walls.proofs.cut_walls.formula.panel.Statement.{statement}
 use Rattle.walls.proofs.cut_walls.formula.panel.Tie as tie
 
--- j stations are summed
+-- j nodes are summed
 abbrev Inv-loop : tie.InvT-loop
 Inv-loop v r h i mid a₀ j₀ a j =
-    let step = aloneC (stationAtC v r h) h mid in
+    let step = aloneC (nodeAtC v r h) h mid in
     (j ≤ 8) × Done (met (a₀ .refusal) (foldC j step (a₀ .value))) (a .refusal) (a .value)
 
 abbrev μ-loop : tie.MeasureT-loop
@@ -31,11 +31,11 @@ loop-holds c = (omega arith, met-none _ _ _)
 lies-noted-requires : tie.Need-lies-noted-requires Inv-loop μ-loop
 lies-noted-requires c κs = search needs
 
-mul-station-at : tie.Need-mul-station-at Inv-loop μ-loop
-mul-station-at c = search needs
+mul-node-at : tie.Need-mul-node-at Inv-loop μ-loop
+mul-node-at c = search needs
 
-array-read-station-at : tie.Need-array-read-station-at Inv-loop μ-loop
-array-read-station-at c = search needs
+array-read-node-at : tie.Need-array-read-node-at Inv-loop μ-loop
+array-read-node-at c = search needs
 
 lies-requires : tie.Need-lies-requires Inv-loop μ-loop
 lies-requires c κs = search needs
@@ -71,8 +71,8 @@ panel-spec =
     note-requires
     loop-holds
     lies-noted-requires
-    mul-station-at
-    array-read-station-at
+    mul-node-at
+    array-read-node-at
     lies-requires
     node-at-requires
     add-j
