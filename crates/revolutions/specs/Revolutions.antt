@@ -91,6 +91,11 @@ tests within neutral single finite lies =
 unfoldable pub faceWithin : Cone → Vec3 → Bool
 faceWithin cone o = coneWithin cone && within3 o
 
+-- the number of the test that a piece and what is handed in with it fail first
+abbrev pub pieceTests : Cone → Vec3 → Rolled → Integrals → ℕ
+pieceTests cone o p s =
+    tests (faceWithin cone o && pathWithin (piece p)) (pathNeutral (piece p)) (pathSingle (piece p)) (finiteSums s) (liesOn cone (piece p))
+
 -- what it is due: the tests of all that is handed in, the lowest number first, then the computation
 unfoldable pub revolutionDue : Cone → Vec3 → List Path → Integrals → Due Integrals
 revolutionDue cone o ps acc =

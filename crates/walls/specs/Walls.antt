@@ -1,15 +1,17 @@
 -- The integrals of the wall of a cut at one place along it. The wall's own coordinates are (t, r),
 -- with n dA = (∂r × ∂t) dt dr.
+use Prim.Native.Nat.{ℕ, _/_}
 use lib.Ieee.{Float}
-use Rattle.checked.specs.Checked.{Checked, _>>=_, given, num, _⊕_, _⊖_, _⊗_}
+use Rattle.checked.specs.Checked.{Checked, _>>=_, given, num, _⊕_, _⊖_, _⊗_, _⊘_}
 use Rattle.checked.specs.Numbers.{literal, half, two, six}
 use Rattle.vectors.specs.declared.Vec2.{Vec2}
 use Rattle.vectors.specs.declared.Vec3.{Vec3}
 use Rattle.vectors.specs.Vectors.{vec, _⊞_, _⊟_, _⊠_, _⊡_, _⨯_}
+use Rattle.checked.specs.Loops.{foldC}
 use Rattle.rounding.specs.Computations.{sqrtC}
 use Rattle.developments.specs.Formulas as rolls
 use Rattle.integrals.specs.declared.SurfaceIntegrals.{SurfaceIntegrals}
-use Rattle.integrals.specs.Gauss.{panelC}
+use Rattle.integrals.specs.Gauss.{weight, lies, panelC}
 use Rattle.walls.specs.declared.Strip.{Strip}
 
 -- 0.25
@@ -54,3 +56,16 @@ unfoldable pub nodeC : Strip → Vec2 → Vec2 → Float → Float → SurfaceIn
 nodeC v p d h wt s = do
   radial ← rolls.radialAtC (v .axis) (v .start) (v .neutral) (p .x)
   panelC (patchC v p radial (alongC v p d) h wt) (v .hr) (v .mr) s
+
+-- ---- the same with the direction away from the axis at hand, as the code has it
+-- how the point at r moves
+abbrev pub knownC : Strip → Vec2 → Vec3 → Float → Checked Vec3
+knownC v d radial r = vec (v .axis) ⨯ vec radial ⊠ (num (d .x) ⊗ num r ⊘ num (v .neutral)) ⊞ vec (v .axis) ⊠ num (d .y)
+
+-- the sums after the node k of the radii, counted as they are taken
+abbrev pub radiusC : Strip → Vec2 → Vec2 → Vec3 → Float → Float → ℕ → SurfaceIntegrals → Checked SurfaceIntegrals
+radiusC v p d radial h wt k a = patchC v p radial (knownC v d radial) h wt (weight (k / 2)) (lies (v .hr) (v .mr) k) a
+
+-- all eight of them
+abbrev pub radiiC : Strip → Vec2 → Vec2 → Vec3 → Float → Float → SurfaceIntegrals → Checked SurfaceIntegrals
+radiiC v p d radial h wt s = foldC 8 (radiusC v p d radial h wt) s
