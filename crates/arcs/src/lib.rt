@@ -15,18 +15,18 @@ use crate::points::angle_within;
 use crate::sweep::circle_within;
 use crate::sweep::ends_within;
 use boxes::Bounds;
+use boxes::BoxAnswer;
 use boxes::BoxOutcome;
 use boxes::CheckedBounds;
-use boxes::Widened;
 use checked::BAD_BOX_OR_SUMS;
-use checked::Number;
+use checked::NumberAnswer;
 use checked::OUT_OF_RANGE;
 use checked::earlier;
 use checked::fails;
 use checked::tried_chord;
 use rows::Written;
 use vectors::Vec3;
-use vectors::Vector;
+use vectors::VectorAnswer;
 
 pub mod chords;
 pub mod extremes;
@@ -84,7 +84,7 @@ impl Arc {
 
     // The angle turned counterclockwise about the axis from one point to another; one point twice
     // is a full circle.
-    pub fn sweep(self, from: Vec3, to: Vec3) -> Number
+    pub fn sweep(self, from: Vec3, to: Vec3) -> NumberAnswer
         ensures { λ r. ⌜ numberDue r ≡ sweepDue self from to ⌝ }
     {
         let n = fails(
@@ -94,12 +94,12 @@ impl Arc {
         if n == 0 {
             checked::settle(sweep::sweep(self.center, self.axis, from, to))
         } else {
-            Number::Refused(n)
+            NumberAnswer::Refused(n)
         }
     }
 
     // The point at the angle t from `from`, counterclockwise about the axis.
-    pub fn at(self, from: Vec3, t: f64) -> Vector
+    pub fn at(self, from: Vec3, t: f64) -> VectorAnswer
         ensures { λ r. ⌜ vectorDue r ≡ atDue self from t ⌝ }
     {
         let n = fails(
@@ -109,13 +109,13 @@ impl Arc {
         if n == 0 {
             vectors::settle(points::at(self.center, self.axis, self.radius, from, t))
         } else {
-            Vector::Refused(n)
+            VectorAnswer::Refused(n)
         }
     }
 
     // The box widened by the arc from one point to another: both ends, and the points extreme along
     // an axis that lie on it.
-    pub fn extended(self, from: Vec3, to: Vec3, bounds: Bounds) -> Widened
+    pub fn extended(self, from: Vec3, to: Vec3, bounds: Bounds) -> BoxAnswer
         ensures { λ r. ⌜ widenedDue r ≡ extendDue self from to bounds ⌝ }
     {
         let n = fails(
@@ -136,7 +136,7 @@ impl Arc {
                 },
             ))
         } else {
-            Widened::Refused(n)
+            BoxAnswer::Refused(n)
         }
     }
 

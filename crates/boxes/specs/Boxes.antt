@@ -14,8 +14,8 @@ use Rattle.checked.specs.Answers.{numberOf, after}
 use Rattle.checked.specs.Tests.{fails, _or_, passing}
 use Rattle.boxes.specs.declared.Bounds.{Bounds}
 use Rattle.boxes.specs.declared.BoxOutcome.{BoxOutcome}
-use Rattle.boxes.specs.declared.Widened.{Widened}
-use Rattle.boxes.specs.declared.Widened.the-variants as widened-variants
+use Rattle.boxes.specs.declared.BoxAnswer.{BoxAnswer}
+use Rattle.boxes.specs.declared.BoxAnswer.the-variants as widened-variants
 
 -- a coordinate
 pub data Axis : Type 0 where
@@ -77,7 +77,7 @@ Sound c = c .refusal ≡ 0 → AllFinite (c .value)
 
 -- ---- box calls
 -- what the code's answer says
-abbrev pub widenedDue : Widened → Due Bounds
+abbrev pub widenedDue : BoxAnswer → Due Bounds
 widenedDue (widened-variants.Box b) = due b
 widenedDue (widened-variants.Refused n) = refused n
 

@@ -19,7 +19,7 @@ pub struct CheckedBounds {
 }
 
 // The answer of a box call.
-pub enum Widened {
+pub enum BoxAnswer {
     Box(Bounds),
     Refused(u8),
 }
@@ -60,28 +60,28 @@ fn are_numbers(v: Vec3) -> bool
 }
 
 // The box, or its refusal where there is one.
-pub fn settle(c: CheckedBounds) -> Widened
+pub fn settle(c: CheckedBounds) -> BoxAnswer
     ensures { λ r. ⌜ Boxes.widenedDue r ≡ settled (c .refusal) (c .value) ⌝ }
 {
     let r = c.refusal;
     let b = c.value;
     if r == 0 {
-        Widened::Box(b)
+        BoxAnswer::Box(b)
     } else {
-        Widened::Refused(r)
+        BoxAnswer::Refused(r)
     }
 }
 
 // What is left of the box b after a call with this answer: b itself where it was refused.
-pub fn after(b: Bounds, answer: Widened) -> BoxOutcome
+pub fn after(b: Bounds, answer: BoxAnswer) -> BoxOutcome
     ensures { λ r. ⌜ r ≡ Boxes.outcome b (Boxes.widenedDue answer) ⌝ }
 {
     match answer {
-        Widened::Box(c) => BoxOutcome {
+        BoxAnswer::Box(c) => BoxOutcome {
             bounds: c,
             number: 0,
         },
-        Widened::Refused(n) => BoxOutcome {
+        BoxAnswer::Refused(n) => BoxOutcome {
             bounds: b,
             number: n,
         },

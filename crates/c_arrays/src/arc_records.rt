@@ -12,9 +12,9 @@ use crate::vec3_at;
 use arcs::Arc;
 use arcs::ArcAnswer;
 use boxes::Bounds;
-use boxes::Widened;
-use motions::Motion;
+use boxes::BoxAnswer;
 use motions::Rigid;
+use motions::RigidAnswer;
 use motions::Rows;
 use vectors::Vec3;
 
@@ -109,12 +109,12 @@ pub fn store_arc(a: ArcAnswer, out: &mut [f64; 7]) -> u32
     }
 }
 
-pub fn store_motion(m: Motion, out: &mut [f64; 12]) -> u32
+pub fn store_motion(m: RigidAnswer, out: &mut [f64; 12]) -> u32
     ensures number { λ r. ⌜ r ≡ numberOf (motionDue m) ⌝ }
     ensures out { λ _. ⌜ now (out .exit) ≡ after ofRigid (now (out .entry)) (motionDue m) ⌝ }
 {
     match m {
-        Motion::Value(g) => {
+        RigidAnswer::Value(g) => {
             out[0] = g.rot.x.x;
             out[1] = g.rot.x.y;
             out[2] = g.rot.x.z;
@@ -129,16 +129,16 @@ pub fn store_motion(m: Motion, out: &mut [f64; 12]) -> u32
             out[11] = g.shift.z;
             0
         }
-        Motion::Refused(r) => r as u32,
+        RigidAnswer::Refused(r) => r as u32,
     }
 }
 
-pub fn store_bounds(w: Widened, out: &mut [f64; 6]) -> u32
+pub fn store_bounds(w: BoxAnswer, out: &mut [f64; 6]) -> u32
     ensures number { λ r. ⌜ r ≡ numberOf (widenedDue w) ⌝ }
     ensures out { λ _. ⌜ now (out .exit) ≡ after ofBounds (now (out .entry)) (widenedDue w) ⌝ }
 {
     match w {
-        Widened::Box(b) => {
+        BoxAnswer::Box(b) => {
             out[0] = b.low.x;
             out[1] = b.low.y;
             out[2] = b.low.z;
@@ -147,6 +147,6 @@ pub fn store_bounds(w: Widened, out: &mut [f64; 6]) -> u32
             out[5] = b.high.z;
             0
         }
-        Widened::Refused(r) => r as u32,
+        BoxAnswer::Refused(r) => r as u32,
     }
 }

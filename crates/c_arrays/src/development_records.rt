@@ -8,8 +8,8 @@ ghost use Rattle.c_arrays.specs.Records.{over, after};
 ghost use Rattle.c_arrays.specs.DevelopmentRecords.{developmentAt, development, ofDevelopment, ofUnrolled};
 use crate::vec3_at;
 use developments::Development;
-use developments::MovedDevelopment;
-use developments::UnrolledPoint;
+use developments::DevelopmentAnswer;
+use developments::UnrolledAnswer;
 
 // The development whose ten numbers stand from place k on.
 pub fn development_at(a: &[f64], k: usize) -> Development
@@ -47,31 +47,31 @@ pub fn put_development(d: Development, out: &mut [f64])
     out[9] = d.neutral;
 }
 
-pub fn store_development(m: MovedDevelopment, out: &mut [f64; 10]) -> u32
+pub fn store_development(m: DevelopmentAnswer, out: &mut [f64; 10]) -> u32
     ensures number { λ r. ⌜ r ≡ numberOf (developmentDue m) ⌝ }
     ensures out { λ _. ⌜ now (out .exit) ≡ after ofDevelopment (now (out .entry)) (developmentDue m) ⌝ }
 {
     match m {
-        MovedDevelopment::Value(d) => {
+        DevelopmentAnswer::Value(d) => {
             put_development(d, out);
             0
         }
-        MovedDevelopment::Refused(r) => r as u32,
+        DevelopmentAnswer::Refused(r) => r as u32,
     }
 }
 
 // u, v, the distance from the axis.
-pub fn store_unrolled(q: UnrolledPoint, out: &mut [f64; 3]) -> u32
+pub fn store_unrolled(q: UnrolledAnswer, out: &mut [f64; 3]) -> u32
     ensures number { λ r. ⌜ r ≡ numberOf (unrolledDue q) ⌝ }
     ensures out { λ _. ⌜ now (out .exit) ≡ after ofUnrolled (now (out .entry)) (unrolledDue q) ⌝ }
 {
     match q {
-        UnrolledPoint::Value(u) => {
+        UnrolledAnswer::Value(u) => {
             out[0] = u.p.x;
             out[1] = u.p.y;
             out[2] = u.r;
             0
         }
-        UnrolledPoint::Refused(r) => r as u32,
+        UnrolledAnswer::Refused(r) => r as u32,
     }
 }

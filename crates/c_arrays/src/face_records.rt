@@ -11,8 +11,8 @@ use crate::vec3_at;
 use cones::Cone;
 use cones::Frame;
 use cones::FrameAnswer;
-use integrals::Added;
 use integrals::Integrals;
+use integrals::SumsAnswer;
 use integrals::SurfaceIntegrals;
 use vectors::Vec3;
 
@@ -115,12 +115,12 @@ pub fn store_frame(a: FrameAnswer, out: &mut [f64; 12]) -> u32
     }
 }
 
-pub fn store_sums(a: Added, out: &mut [f64; 8]) -> u32
+pub fn store_sums(a: SumsAnswer, out: &mut [f64; 8]) -> u32
     ensures number { λ r. ⌜ r ≡ numberOf (addedDue a) ⌝ }
     ensures out { λ _. ⌜ now (out .exit) ≡ after ofSums (now (out .entry)) (addedDue a) ⌝ }
 {
     match a {
-        Added::Sums(s) => {
+        SumsAnswer::Sums(s) => {
             out[0] = s.surface.six_v;
             out[1] = s.surface.moment.x;
             out[2] = s.surface.moment.y;
@@ -131,6 +131,6 @@ pub fn store_sums(a: Added, out: &mut [f64; 8]) -> u32
             out[7] = s.surface.area_vector.z;
             0
         }
-        Added::Refused(r) => r as u32,
+        SumsAnswer::Refused(r) => r as u32,
     }
 }

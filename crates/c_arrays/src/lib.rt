@@ -6,12 +6,12 @@ ghost use Rattle.checked.specs.Checked.{numberDue};
 ghost use Rattle.vectors.specs.Entries.{vectorDue, indexDue};
 ghost use Rattle.checked.specs.Answers.{numberOf};
 ghost use Rattle.c_arrays.specs.Records.{vec2At, vec3At, vec2, vec3, alone, ofVec3, ofSines, after, sinesDue};
-use checked::Number;
+use checked::NumberAnswer;
 use libm::sincos::CheckedSines;
-use vectors::Index;
+use vectors::IndexAnswer;
 use vectors::Vec2;
 use vectors::Vec3;
-use vectors::Vector;
+use vectors::VectorAnswer;
 
 pub mod arc_records;
 pub mod development_records;
@@ -57,44 +57,44 @@ pub fn vec3_of(a: &[f64; 3]) -> Vec3
     vec3_at(a, 0)
 }
 
-pub fn store_number(n: Number, out: &mut [f64; 1]) -> u32
+pub fn store_number(n: NumberAnswer, out: &mut [f64; 1]) -> u32
     ensures number { λ r. ⌜ r ≡ numberOf (numberDue n) ⌝ }
     ensures out { λ _. ⌜ now (out .exit) ≡ after alone (now (out .entry)) (numberDue n) ⌝ }
 {
     match n {
-        Number::Value(x) => {
+        NumberAnswer::Value(x) => {
             out[0] = x;
             0
         }
-        Number::Refused(r) => r as u32,
+        NumberAnswer::Refused(r) => r as u32,
     }
 }
 
-pub fn store_vector(v: Vector, out: &mut [f64; 3]) -> u32
+pub fn store_vector(v: VectorAnswer, out: &mut [f64; 3]) -> u32
     ensures number { λ r. ⌜ r ≡ numberOf (vectorDue v) ⌝ }
     ensures out { λ _. ⌜ now (out .exit) ≡ after ofVec3 (now (out .entry)) (vectorDue v) ⌝ }
 {
     match v {
-        Vector::Value(p) => {
+        VectorAnswer::Value(p) => {
             out[0] = p.x;
             out[1] = p.y;
             out[2] = p.z;
             0
         }
-        Vector::Refused(r) => r as u32,
+        VectorAnswer::Refused(r) => r as u32,
     }
 }
 
-pub fn store_index(k: Index, out: &mut [u64; 1]) -> u32
+pub fn store_index(k: IndexAnswer, out: &mut [u64; 1]) -> u32
     ensures number { λ r. ⌜ r ≡ numberOf (indexDue k) ⌝ }
     ensures out { λ _. ⌜ now (out .exit) ≡ after alone (now (out .entry)) (indexDue k) ⌝ }
 {
     match k {
-        Index::Value(i) => {
+        IndexAnswer::Value(i) => {
             out[0] = i as u64;
             0
         }
-        Index::Refused(r) => r as u32,
+        IndexAnswer::Refused(r) => r as u32,
     }
 }
 

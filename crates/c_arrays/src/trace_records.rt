@@ -11,13 +11,13 @@ ghost use Rattle.c_arrays.specs.TraceRecords.{waveAt, wave, isTurn, turn
 use crate::NONE;
 use crate::vec3_at;
 use meets::Meet;
-use meets::MeetPoint;
+use meets::MeetPointAnswer;
 use meets::Turn;
-use traces::Height;
+use traces::HeightAnswer;
 use traces::Trace;
+use waves::SpanAnswer;
 use waves::Wave;
-use waves::WaveJet;
-use waves::WaveSpan;
+use waves::WaveAnswer;
 
 // The wave whose three numbers stand from place k on.
 fn wave_at(a: &[f64], k: usize) -> Wave
@@ -103,43 +103,43 @@ pub fn trace_of(a: &[f64; 10], kind: u32) -> Trace
 }
 
 // v and its two derivatives.
-pub fn store_jet(w: WaveJet, out: &mut [f64; 3]) -> u32
+pub fn store_jet(w: WaveAnswer, out: &mut [f64; 3]) -> u32
     ensures number { λ r. ⌜ r ≡ numberOf (jetDue w) ⌝ }
     ensures out { λ _. ⌜ now (out .exit) ≡ after ofJet (now (out .entry)) (jetDue w) ⌝ }
 {
     match w {
-        WaveJet::Value(j) => {
+        WaveAnswer::Value(j) => {
             out[0] = j.v;
             out[1] = j.slope;
             out[2] = j.bend;
             0
         }
-        WaveJet::Refused(r) => r as u32,
+        WaveAnswer::Refused(r) => r as u32,
     }
 }
 
 // The least and the greatest v.
-pub fn store_span(w: WaveSpan, out: &mut [f64; 2]) -> u32
+pub fn store_span(w: SpanAnswer, out: &mut [f64; 2]) -> u32
     ensures number { λ r. ⌜ r ≡ numberOf (spanDue w) ⌝ }
     ensures out { λ _. ⌜ now (out .exit) ≡ after ofSpan (now (out .entry)) (spanDue w) ⌝ }
 {
     match w {
-        WaveSpan::Value(s) => {
+        SpanAnswer::Value(s) => {
             out[0] = s.low;
             out[1] = s.high;
             0
         }
-        WaveSpan::Refused(r) => r as u32,
+        SpanAnswer::Refused(r) => r as u32,
     }
 }
 
 // The point and its two derivatives.
-pub fn store_points(m: MeetPoint, out: &mut [f64; 9]) -> u32
+pub fn store_points(m: MeetPointAnswer, out: &mut [f64; 9]) -> u32
     ensures number { λ r. ⌜ r ≡ numberOf (pointsDue m) ⌝ }
     ensures out { λ _. ⌜ now (out .exit) ≡ after ofPoints (now (out .entry)) (pointsDue m) ⌝ }
 {
     match m {
-        MeetPoint::Value(j) => {
+        MeetPointAnswer::Value(j) => {
             out[0] = j.q.x;
             out[1] = j.q.y;
             out[2] = j.q.z;
@@ -151,20 +151,20 @@ pub fn store_points(m: MeetPoint, out: &mut [f64; 9]) -> u32
             out[8] = j.q2.z;
             0
         }
-        MeetPoint::Refused(r) => r as u32,
+        MeetPointAnswer::Refused(r) => r as u32,
     }
 }
 
-pub fn store_height(h: Height, out: &mut [f64; 1]) -> u32
+pub fn store_height(h: HeightAnswer, out: &mut [f64; 1]) -> u32
     ensures number { λ r. ⌜ r ≡ numberOf (someDue (heightDue h)) ⌝ }
     ensures out { λ _. ⌜ now (out .exit) ≡ after alone (now (out .entry)) (someDue (heightDue h)) ⌝ }
 {
     match h {
-        Height::Value(v) => {
+        HeightAnswer::Value(v) => {
             out[0] = v;
             0
         }
-        Height::Nothing => NONE,
-        Height::Refused(r) => r as u32,
+        HeightAnswer::Nothing => NONE,
+        HeightAnswer::Refused(r) => r as u32,
     }
 }

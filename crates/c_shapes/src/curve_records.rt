@@ -12,7 +12,7 @@ use c_arrays::arc_records::arc_at;
 use c_arrays::arc_records::put_arc;
 use curves::Curve;
 use curves::CurveAnswer;
-use curves::CurveArc;
+use curves::CurveArcAnswer;
 use curves::RolledAt;
 use piece_arrays::arc_tag;
 use piece_arrays::is_piece;
@@ -99,16 +99,16 @@ pub fn store_curve(a: CurveAnswer, out: &mut [f64; 27], tags: &mut [u32; 2]) -> 
     }
 }
 
-pub fn store_curve_arc(a: CurveArc, out: &mut [f64; 7]) -> u32
+pub fn store_curve_arc(a: CurveArcAnswer, out: &mut [f64; 7]) -> u32
     ensures number { λ r. ⌜ r ≡ numberOf (someDue (curveArcDue a)) ⌝ }
     ensures out { λ _. ⌜ now (out .exit) ≡ after ofArc (now (out .entry)) (someDue (curveArcDue a)) ⌝ }
 {
     match a {
-        CurveArc::Value(b) => {
+        CurveArcAnswer::Value(b) => {
             put_arc(b, out);
             0
         }
-        CurveArc::Nothing => NONE,
-        CurveArc::Refused(r) => r as u32,
+        CurveArcAnswer::Nothing => NONE,
+        CurveArcAnswer::Refused(r) => r as u32,
     }
 }

@@ -16,12 +16,12 @@ use c_arrays::vec3_at;
 use piece_arrays::is_piece;
 use piece_arrays::piece_of;
 use piece_arrays::put_piece;
+use surfaces::ConeAnswer;
 use surfaces::Cylinder;
 use surfaces::Plane;
+use surfaces::PlaneAnswer;
 use surfaces::Surface;
 use surfaces::SurfaceAnswer;
-use surfaces::SurfaceCone;
-use surfaces::SurfacePlane;
 
 // Whether the tags are a surface's: 0 a plane, 1 a cylinder, 2 a cone, whose other tags are not read, 3 a wall.
 pub fn is_surface(kind: u32, arc: u32, trace: u32) -> bool
@@ -114,31 +114,31 @@ pub fn store_surface(a: SurfaceAnswer, out: &mut [f64; 26]) -> u32
     }
 }
 
-pub fn store_plane(a: SurfacePlane, out: &mut [f64; 6]) -> u32
+pub fn store_plane(a: PlaneAnswer, out: &mut [f64; 6]) -> u32
     ensures number { λ r. ⌜ r ≡ numberOf (someDue (surfacePlaneDue a)) ⌝ }
     ensures out { λ _. ⌜ now (out .exit) ≡ after ofPlane (now (out .entry)) (someDue (surfacePlaneDue a)) ⌝ }
 {
     match a {
-        SurfacePlane::Value(p) => {
+        PlaneAnswer::Value(p) => {
             put_plane(p, out);
             0
         }
-        SurfacePlane::Nothing => NONE,
-        SurfacePlane::Refused(r) => r as u32,
+        PlaneAnswer::Nothing => NONE,
+        PlaneAnswer::Refused(r) => r as u32,
     }
 }
 
 // A cone's eight numbers; which side the body is on is as it was handed in.
-pub fn store_cone(a: SurfaceCone, out: &mut [f64; 8]) -> u32
+pub fn store_cone(a: ConeAnswer, out: &mut [f64; 8]) -> u32
     ensures number { λ r. ⌜ r ≡ numberOf (someDue (surfaceConeDue a)) ⌝ }
     ensures out { λ _. ⌜ now (out .exit) ≡ after ofCone (now (out .entry)) (someDue (surfaceConeDue a)) ⌝ }
 {
     match a {
-        SurfaceCone::Value(c) => {
+        ConeAnswer::Value(c) => {
             put_cone(c, out);
             0
         }
-        SurfaceCone::Nothing => NONE,
-        SurfaceCone::Refused(r) => r as u32,
+        ConeAnswer::Nothing => NONE,
+        ConeAnswer::Refused(r) => r as u32,
     }
 }

@@ -3,8 +3,8 @@ use Prim.Native.Nat.{ℕ, zero, suc}
 use mathlib.Core.Bool.{Bool, true, false, cond, _&&_}
 use lib.Ieee.{Float, nan, inf, fin, binary64, add, sub, mul, div, neg, le, ofBits}
 use Rattle.checked.specs.Refusals.{ANGLE-TOO-LARGE, NOT-FINITE}
-use Rattle.checked.specs.declared.Number.{Number}
-use Rattle.checked.specs.declared.Number.the-variants as number
+use Rattle.checked.specs.declared.NumberAnswer.{NumberAnswer}
+use Rattle.checked.specs.declared.NumberAnswer.the-variants as number
 
 -- ---- computations
 -- a value, and the refusal met first on the way to it; 0 is none
@@ -109,6 +109,6 @@ abbrev pub answered : {A : Type 0} → Checked A → Due A
 answered c = settled (c .refusal) (c .value)
 
 -- what the code's answer says
-abbrev pub numberDue : Number → Due Float
+abbrev pub numberDue : NumberAnswer → Due Float
 numberDue (number.Value x) = due x
 numberDue (number.Refused n) = refused n

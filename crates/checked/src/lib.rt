@@ -50,7 +50,7 @@ pub struct CheckedNumber {
 }
 
 // The answer of an entry whose result is a number.
-pub enum Number {
+pub enum NumberAnswer {
     Value(f64),
     Refused(u8),
 }
@@ -122,14 +122,14 @@ pub fn note(r: u8, x: f64) -> u8
 }
 
 // The number, or its refusal where there is one.
-pub fn settle(c: CheckedNumber) -> Number
+pub fn settle(c: CheckedNumber) -> NumberAnswer
     ensures { λ r. ⌜ numberDue r ≡ settled (c .refusal) (c .value) ⌝ }
 {
     let r = c.refusal;
     if r == 0 {
-        Number::Value(c.value)
+        NumberAnswer::Value(c.value)
     } else {
-        Number::Refused(r)
+        NumberAnswer::Refused(r)
     }
 }
 

@@ -4,7 +4,7 @@ ghost use mathlib.Core.Path.{_≡_};
 ghost use mathlib.Core.Bool.{_&&_};
 ghost use Rattle.checked.specs.Checked.{numberDue, within};
 ghost use Rattle.chord_counts.specs.Chords.{perTurnDue};
-use checked::Number;
+use checked::NumberAnswer;
 use checked::OUT_OF_RANGE;
 use checked::earlier;
 use checked::fails;
@@ -22,7 +22,7 @@ fn are_within(radius: f64, chord: f64) -> bool
 }
 
 // The chords that a full turn of a circle needs to stay within `chord` of it: 12 to 64.
-pub fn per_turn(radius: f64, chord: f64) -> Number
+pub fn per_turn(radius: f64, chord: f64) -> NumberAnswer
     ensures { λ r. ⌜ numberDue r ≡ perTurnDue radius chord ⌝ }
 {
     let t = fails(OUT_OF_RANGE, are_within(radius, chord));
@@ -30,6 +30,6 @@ pub fn per_turn(radius: f64, chord: f64) -> Number
     if t == 0 {
         settle(formula::per_turn(radius, chord))
     } else {
-        Number::Refused(t)
+        NumberAnswer::Refused(t)
     }
 }

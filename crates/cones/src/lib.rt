@@ -7,7 +7,7 @@ ghost use Rattle.vectors.specs.Vectors.{within3};
 ghost use Rattle.vectors.specs.Entries.{vectorDue};
 ghost use Rattle.cones.specs.Frames.{frameC};
 ghost use Rattle.cones.specs.Entries.{frameAnswerDue, coneWithin, frameWithin, frameDue, angleDue, pointDue};
-use checked::Number;
+use checked::NumberAnswer;
 use checked::OUT_OF_RANGE;
 use checked::fails;
 use checked::is_within;
@@ -16,7 +16,7 @@ use directions::formula::across;
 use directions::formula::length;
 use formula::least_axis;
 use vectors::Vec3;
-use vectors::Vector;
+use vectors::VectorAnswer;
 use vectors::formula::cross;
 use vectors::formula::dot;
 use vectors::formula::noted;
@@ -118,19 +118,19 @@ impl Frame {
     }
 
     // The angle of the point p, in [-π, π].
-    pub fn angle(self, p: Vec3) -> Number
+    pub fn angle(self, p: Vec3) -> NumberAnswer
         ensures { λ r. ⌜ numberDue r ≡ angleDue self p ⌝ }
     {
         let t = fails(OUT_OF_RANGE, self.is_within_with(p));
         if t == 0 {
             checked::settle(formula::angle(self, p))
         } else {
-            Number::Refused(t)
+            NumberAnswer::Refused(t)
         }
     }
 
     // The point at the angle `theta`, z along the axis and r from it.
-    pub fn point(self, theta: f64, z: f64, r: f64) -> Vector
+    pub fn point(self, theta: f64, z: f64, r: f64) -> VectorAnswer
         ensures { λ a. ⌜ vectorDue a ≡ pointDue self theta z r ⌝ }
     {
         let t = fails(
@@ -144,7 +144,7 @@ impl Frame {
         if t == 0 {
             vectors::settle(formula::point(self, theta, z, r))
         } else {
-            Vector::Refused(t)
+            VectorAnswer::Refused(t)
         }
     }
 }

@@ -19,8 +19,8 @@ use Rattle.curves.specs.declared.Curve.{Curve}
 use Rattle.curves.specs.declared.Curve.the-variants as curve
 use Rattle.curves.specs.declared.CurveAnswer.{CurveAnswer}
 use Rattle.curves.specs.declared.CurveAnswer.the-variants as answer
-use Rattle.curves.specs.declared.CurveArc.{CurveArc}
-use Rattle.curves.specs.declared.CurveArc.the-variants as curve-arc
+use Rattle.curves.specs.declared.CurveArcAnswer.{CurveArcAnswer}
+use Rattle.curves.specs.declared.CurveArcAnswer.the-variants as curve-arc
 use Rattle.curves.specs.Curves.{reversedC, movedC, arcOf, pointsC}
 
 -- ---- what the code's answers say
@@ -28,7 +28,7 @@ abbrev pub curveDue : CurveAnswer → Due Curve
 curveDue (answer.Value c) = due c
 curveDue (answer.Refused n) = refused n
 
-abbrev pub curveArcDue : CurveArc → Due (Optional Arc)
+abbrev pub curveArcDue : CurveArcAnswer → Due (Optional Arc)
 curveArcDue (curve-arc.Value a) = due (some a)
 curveArcDue curve-arc.Nothing = due none
 curveArcDue (curve-arc.Refused n) = refused n

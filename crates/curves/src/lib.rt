@@ -9,9 +9,9 @@ use arcs::Arc;
 use arcs::extremes;
 use arcs::sweep::circle_within;
 use boxes::Bounds;
+use boxes::BoxAnswer;
 use boxes::BoxOutcome;
 use boxes::CheckedBounds;
-use boxes::Widened;
 use checked::BAD_BOX_OR_SUMS;
 use checked::OUT_OF_RANGE;
 use checked::earlier;
@@ -51,7 +51,7 @@ pub enum CurveAnswer {
 }
 
 // The answer of `arc`: nothing for a piece.
-pub enum CurveArc {
+pub enum CurveArcAnswer {
     Value(Arc),
     Nothing,
     Refused(u8),
@@ -110,22 +110,22 @@ impl Curve {
     }
 
     // The arc that the curve is, where it is one.
-    pub fn arc(self) -> CurveArc
+    pub fn arc(self) -> CurveArcAnswer
         ensures { λ r. ⌜ curveArcDue r ≡ arcDue self ⌝ }
     {
         let n = self.tried();
         if n == 0 {
             match self {
-                Curve::Arc(a) => CurveArc::Value(a),
-                Curve::Rolled(_) => CurveArc::Nothing,
+                Curve::Arc(a) => CurveArcAnswer::Value(a),
+                Curve::Rolled(_) => CurveArcAnswer::Nothing,
             }
         } else {
-            CurveArc::Refused(n)
+            CurveArcAnswer::Refused(n)
         }
     }
 
     // The box widened by the curve from one point to another; a piece has its own ends.
-    pub fn extended(self, from: Vec3, to: Vec3, bounds: Bounds) -> Widened
+    pub fn extended(self, from: Vec3, to: Vec3, bounds: Bounds) -> BoxAnswer
         ensures { λ r. ⌜ widenedDue r ≡ extendDue self from to bounds ⌝ }
     {
         let n = fails(OUT_OF_RANGE, is_within3(from) & is_within3(to));
@@ -151,7 +151,7 @@ impl Curve {
                 }
             }
         } else {
-            Widened::Refused(n)
+            BoxAnswer::Refused(n)
         }
     }
 

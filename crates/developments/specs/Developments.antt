@@ -12,17 +12,17 @@ use Rattle.vectors.specs.Vectors.{within2, within3}
 use Rattle.developments.specs.declared.formulas.Unrolled.{Unrolled}
 use Rattle.developments.specs.Formulas.{radialAtC, pointC, alongC, unrollC}
 use Rattle.developments.specs.declared.Development.{Development}
-use Rattle.developments.specs.declared.UnrolledPoint.{UnrolledPoint}
-use Rattle.developments.specs.declared.UnrolledPoint.the-variants as unrolled-point
-use Rattle.developments.specs.declared.MovedDevelopment.{MovedDevelopment}
-use Rattle.developments.specs.declared.MovedDevelopment.the-variants as moved-development
+use Rattle.developments.specs.declared.UnrolledAnswer.{UnrolledAnswer}
+use Rattle.developments.specs.declared.UnrolledAnswer.the-variants as unrolled-point
+use Rattle.developments.specs.declared.DevelopmentAnswer.{DevelopmentAnswer}
+use Rattle.developments.specs.declared.DevelopmentAnswer.the-variants as moved-development
 
 -- ---- what the code's answers say
-abbrev pub unrolledDue : UnrolledPoint → Due Unrolled
+abbrev pub unrolledDue : UnrolledAnswer → Due Unrolled
 unrolledDue (unrolled-point.Value v) = due v
 unrolledDue (unrolled-point.Refused n) = refused n
 
-abbrev pub developmentDue : MovedDevelopment → Due Development
+abbrev pub developmentDue : DevelopmentAnswer → Due Development
 developmentDue (moved-development.Value v) = due v
 developmentDue (moved-development.Refused n) = refused n
 

@@ -5,20 +5,20 @@ ghost use Rattle.directions.specs.Directions.{unitDue};
 use checked::OUT_OF_RANGE;
 use checked::fails;
 use vectors::Vec3;
-use vectors::Vector;
+use vectors::VectorAnswer;
 use vectors::is_within3;
 use vectors::settle;
 
 pub mod formula;
 
 // The vector of length 1 along v.
-pub fn unit(v: Vec3) -> Vector
+pub fn unit(v: Vec3) -> VectorAnswer
     ensures { λ r. ⌜ vectorDue r ≡ unitDue v ⌝ }
 {
     let t = fails(OUT_OF_RANGE, is_within3(v));
     if t == 0 {
         settle(formula::unit(v))
     } else {
-        Vector::Refused(t)
+        VectorAnswer::Refused(t)
     }
 }

@@ -7,7 +7,7 @@ ghost use Rattle.edge_records.specs.Records.{recordOf};
 ghost use Rattle.edge_file.specs.EdgeFile.{next, callOf};
 ghost use Rattle.edge_file.specs.Steps as Steps;
 use boxes::Bounds;
-use boxes::Widened;
+use boxes::BoxAnswer;
 use checked::MALFORMED_FILE;
 use edge_records::Edge;
 use edge_records::Record;
@@ -78,7 +78,7 @@ impl Reading {
         ensures { λ r. ⌜ r ≡ Steps.calledOn self (callOf e (self .seen .bounds)) ⌝ }
     {
         match e.arc.extended(e.from, e.to, self.seen.bounds) {
-            Widened::Box(bounds) => Reading {
+            BoxAnswer::Box(bounds) => Reading {
                 seen: Seen {
                     has_edge: true,
                     bounds,
@@ -86,7 +86,7 @@ impl Reading {
                 number: next_number(self.number),
                 status: Status::Open,
             },
-            Widened::Refused(n) => self.stopped(n, self.number),
+            BoxAnswer::Refused(n) => self.stopped(n, self.number),
         }
     }
 

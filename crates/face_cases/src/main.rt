@@ -5,8 +5,8 @@ use arcs::Arc;
 use checked::PI;
 use cones::Cone;
 use developments::Development;
-use integrals::Added;
 use integrals::Integrals;
+use integrals::SumsAnswer;
 use integrals::SurfaceIntegrals;
 use piece_curves::PieceArc;
 use piece_curves::PieceTrace;
@@ -57,10 +57,10 @@ fn vec(x: f64, y: f64, z: f64) -> Vec3 {
 }
 
 // The sums, or a NaN in them where there are none.
-fn sums_of(answer: Added) -> Integrals {
+fn sums_of(answer: SumsAnswer) -> Integrals {
     match answer {
-        Added::Sums(s) => s,
-        Added::Refused(_) => Integrals {
+        SumsAnswer::Sums(s) => s,
+        SumsAnswer::Refused(_) => Integrals {
             surface: SurfaceIntegrals {
                 six_v: 0.0 / 0.0,
                 moment: Vec3::ZERO,

@@ -4,7 +4,7 @@
 // points, half of them a few bits apart: each is a full circle exactly where its arctangent lies in
 // [-2^-51, 0], as crates/arc_theorems proves.
 use arcs::Arc;
-use checked::Number;
+use checked::NumberAnswer;
 use checked::TAU;
 use libm::atan2;
 use std::num::wrapping_add_u64;
@@ -30,8 +30,8 @@ fn about_z() -> Arc {
 // The sweep from a point to another, or 0, which is no sweep, where it is refused.
 fn sweep_of(from: Vec3, to: Vec3) -> f64 {
     match about_z().sweep(from, to) {
-        Number::Value(x) => x,
-        Number::Refused(r) => 0.0,
+        NumberAnswer::Value(x) => x,
+        NumberAnswer::Refused(r) => 0.0,
     }
 }
 

@@ -10,8 +10,8 @@ use Rattle.vectors.specs.Vectors.{origin, isFinite3}
 use Rattle.integrals.specs.declared.SurfaceIntegrals.{SurfaceIntegrals}
 use Rattle.integrals.specs.declared.Integrals.{Integrals}
 use Rattle.integrals.specs.declared.SumsOutcome.{SumsOutcome}
-use Rattle.integrals.specs.declared.Added.{Added}
-use Rattle.integrals.specs.declared.Added.the-variants as added-variants
+use Rattle.integrals.specs.declared.SumsAnswer.{SumsAnswer}
+use Rattle.integrals.specs.declared.SumsAnswer.the-variants as added-variants
 
 -- ---- what is integrated over surfaces
 -- all eight numbers are finite
@@ -36,7 +36,7 @@ abbrev pub nothing : Integrals
 nothing = record { surface = record { «six_v» = zero; moment = origin; area = zero; «area_vector» = origin } }
 
 -- what the code's answer says
-abbrev pub addedDue : Added → Due Integrals
+abbrev pub addedDue : SumsAnswer → Due Integrals
 addedDue (added-variants.Sums s) = due s
 addedDue (added-variants.Refused n) = refused n
 

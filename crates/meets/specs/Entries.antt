@@ -9,12 +9,12 @@ use Rattle.meets.specs.declared.generatrix.Jet.{Jet}
 use Rattle.meets.specs.declared.Turn.{Turn}
 use Rattle.meets.specs.declared.Turn.the-variants as turn
 use Rattle.meets.specs.declared.Meet.{Meet}
-use Rattle.meets.specs.declared.MeetPoint.{MeetPoint}
-use Rattle.meets.specs.declared.MeetPoint.the-variants as meet-point
+use Rattle.meets.specs.declared.MeetPointAnswer.{MeetPointAnswer}
+use Rattle.meets.specs.declared.MeetPointAnswer.the-variants as meet-point
 use Rattle.meets.specs.Meets.{derivativesC}
 
 -- what the code's answer says
-abbrev pub pointsDue : MeetPoint → Due Jet
+abbrev pub pointsDue : MeetPointAnswer → Due Jet
 pointsDue (meet-point.Value v) = due v
 pointsDue (meet-point.Refused n) = refused n
 

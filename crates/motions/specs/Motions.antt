@@ -12,11 +12,11 @@ use Rattle.vectors.specs.declared.Vec3.{Vec3}
 use Rattle.vectors.specs.Vectors.{origin, space, within3, nines, vec, _⊞_, _⊡_}
 use Rattle.motions.specs.declared.Rows.{Rows}
 use Rattle.motions.specs.declared.Rigid.{Rigid}
-use Rattle.motions.specs.declared.Motion.{Motion}
-use Rattle.motions.specs.declared.Motion.the-variants as motion
+use Rattle.motions.specs.declared.RigidAnswer.{RigidAnswer}
+use Rattle.motions.specs.declared.RigidAnswer.the-variants as motion
 
 -- what the code's answer says
-abbrev pub motionDue : Motion → Due Rigid
+abbrev pub motionDue : RigidAnswer → Due Rigid
 motionDue (motion.Value m) = due m
 motionDue (motion.Refused n) = refused n
 

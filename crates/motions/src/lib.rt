@@ -9,7 +9,7 @@ use checked::OUT_OF_RANGE;
 use checked::fails;
 use checked::is_within;
 use vectors::Vec3;
-use vectors::Vector;
+use vectors::VectorAnswer;
 use vectors::is_within3;
 use vectors::tried;
 
@@ -36,7 +36,7 @@ pub struct CheckedRigid {
 }
 
 // The answer of an entry whose result is a motion.
-pub enum Motion {
+pub enum RigidAnswer {
     Value(Rigid),
     Refused(u8),
 }
@@ -66,63 +66,63 @@ fn is_within_frame(o: Vec3, x: Vec3, y: Vec3, z: Vec3) -> bool
 }
 
 // The motion, or its refusal where there is one.
-pub fn settle(c: CheckedRigid) -> Motion
+pub fn settle(c: CheckedRigid) -> RigidAnswer
     ensures { λ r. ⌜ motionDue r ≡ settled (c .refusal) (c .value) ⌝ }
 {
     let r = c.refusal;
     let m = c.value;
     if r == 0 {
-        Motion::Value(m)
+        RigidAnswer::Value(m)
     } else {
-        Motion::Refused(r)
+        RigidAnswer::Refused(r)
     }
 }
 
 impl Rigid {
     // The rotation by an angle about an axis of any length but 0 through the origin.
-    pub fn rotation(axis: Vec3, angle: f64) -> Motion
+    pub fn rotation(axis: Vec3, angle: f64) -> RigidAnswer
         ensures { λ r. ⌜ motionDue r ≡ rotationDue axis angle ⌝ }
     {
         let t = fails(OUT_OF_RANGE, is_within_turn(axis, angle));
         if t == 0 {
             settle(formula::rotation(axis, angle))
         } else {
-            Motion::Refused(t)
+            RigidAnswer::Refused(t)
         }
     }
 
     // The motion taking coordinates in a frame to those of the world.
-    pub fn frame(origin: Vec3, x: Vec3, y: Vec3, z: Vec3) -> Motion
+    pub fn frame(origin: Vec3, x: Vec3, y: Vec3, z: Vec3) -> RigidAnswer
         ensures { λ r. ⌜ motionDue r ≡ frameDue origin x y z ⌝ }
     {
         let t = fails(OUT_OF_RANGE, is_within_frame(origin, x, y, z));
         if t == 0 {
-            Motion::Value(formula::frame(origin, x, y, z))
+            RigidAnswer::Value(formula::frame(origin, x, y, z))
         } else {
-            Motion::Refused(t)
+            RigidAnswer::Refused(t)
         }
     }
 
-    pub fn apply(self, p: Vec3) -> Vector
+    pub fn apply(self, p: Vec3) -> VectorAnswer
         ensures { λ r. ⌜ vectorDue r ≡ applyDue self p ⌝ }
     {
         let t = fails(OUT_OF_RANGE, are_within(self, p));
         if t == 0 {
             tried(formula::apply(self, p))
         } else {
-            Vector::Refused(t)
+            VectorAnswer::Refused(t)
         }
     }
 
     // The rotation alone: for directions and normals.
-    pub fn apply_vector(self, v: Vec3) -> Vector
+    pub fn apply_vector(self, v: Vec3) -> VectorAnswer
         ensures { λ r. ⌜ vectorDue r ≡ applyVectorDue self v ⌝ }
     {
         let t = fails(OUT_OF_RANGE, are_within(self, v));
         if t == 0 {
             tried(formula::apply_vector(self, v))
         } else {
-            Vector::Refused(t)
+            VectorAnswer::Refused(t)
         }
     }
 }

@@ -20,42 +20,42 @@ use Rattle.piece_boxes.specs.CurveBoxes.{boxC}
 use Rattle.piece_lengths.specs.Counts.{quadratureC, chordsC, polylineC}
 use Rattle.pieces.specs.Tests.{arcWithin, followedWithin, both}
 use Rattle.pieces.specs.declared.Rolled.{Rolled}
-use Rattle.pieces.specs.declared.RolledPoint.{RolledPoint}
-use Rattle.pieces.specs.declared.RolledPoint.the-variants as rolled-point
-use Rattle.pieces.specs.declared.RolledSecond.{RolledSecond}
-use Rattle.pieces.specs.declared.RolledSecond.the-variants as rolled-second
-use Rattle.pieces.specs.declared.RolledPiece.{RolledPiece}
-use Rattle.pieces.specs.declared.RolledPiece.the-variants as rolled-piece
-use Rattle.pieces.specs.declared.RolledMeasure.{RolledMeasure}
-use Rattle.pieces.specs.declared.RolledMeasure.the-variants as rolled-measure
-use Rattle.pieces.specs.declared.RolledCount.{RolledCount}
-use Rattle.pieces.specs.declared.RolledCount.the-variants as rolled-count
-use Rattle.pieces.specs.declared.RolledBox.{RolledBox}
-use Rattle.pieces.specs.declared.RolledBox.the-variants as rolled-box
+use Rattle.pieces.specs.declared.PlaceAnswer.{PlaceAnswer}
+use Rattle.pieces.specs.declared.PlaceAnswer.the-variants as rolled-point
+use Rattle.pieces.specs.declared.SecondAnswer.{SecondAnswer}
+use Rattle.pieces.specs.declared.SecondAnswer.the-variants as rolled-second
+use Rattle.pieces.specs.declared.RolledAnswer.{RolledAnswer}
+use Rattle.pieces.specs.declared.RolledAnswer.the-variants as rolled-piece
+use Rattle.pieces.specs.declared.MeasureAnswer.{MeasureAnswer}
+use Rattle.pieces.specs.declared.MeasureAnswer.the-variants as rolled-measure
+use Rattle.pieces.specs.declared.CountAnswer.{CountAnswer}
+use Rattle.pieces.specs.declared.CountAnswer.the-variants as rolled-count
+use Rattle.pieces.specs.declared.FlatBoxAnswer.{FlatBoxAnswer}
+use Rattle.pieces.specs.declared.FlatBoxAnswer.the-variants as rolled-box
 use Rattle.pieces.specs.Pieces.{runC, back, normalC}
 
 -- ---- what the code's answers say
-abbrev pub placeDue : RolledPoint → Due Place
+abbrev pub placeDue : PlaceAnswer → Due Place
 placeDue (rolled-point.Value v) = due v
 placeDue (rolled-point.Refused n) = refused n
 
-abbrev pub flatDue : RolledSecond → Due Vec2
+abbrev pub flatDue : SecondAnswer → Due Vec2
 flatDue (rolled-second.Value v) = due v
 flatDue (rolled-second.Refused n) = refused n
 
-abbrev pub pieceDue : RolledPiece → Due Rolled
+abbrev pub pieceDue : RolledAnswer → Due Rolled
 pieceDue (rolled-piece.Value v) = due v
 pieceDue (rolled-piece.Refused n) = refused n
 
-abbrev pub measuredDue : RolledMeasure → Due Measure
+abbrev pub measuredDue : MeasureAnswer → Due Measure
 measuredDue (rolled-measure.Value v) = due v
 measuredDue (rolled-measure.Refused n) = refused n
 
-abbrev pub countDue : RolledCount → Due ℕ
+abbrev pub countDue : CountAnswer → Due ℕ
 countDue (rolled-count.Value v) = due v
 countDue (rolled-count.Refused n) = refused n
 
-abbrev pub boxDue : RolledBox → Due FlatBox
+abbrev pub boxDue : FlatBoxAnswer → Due FlatBox
 boxDue (rolled-box.Value v) = due v
 boxDue (rolled-box.Refused n) = refused n
 

@@ -32,7 +32,7 @@ use piece_lengths::measures::CheckedMeasure;
 use piece_lengths::measures::Measure;
 use piece_lengths::second_derivatives::second;
 use vectors::Vec2;
-use vectors::Vector;
+use vectors::VectorAnswer;
 use vectors::is_within2;
 
 pub mod formula;
@@ -48,99 +48,99 @@ pub struct Rolled {
 }
 
 // The answer of `at`: the point and its derivative.
-pub enum RolledPoint {
+pub enum PlaceAnswer {
     Value(Place),
     Refused(u8),
 }
 
 // The answer of `second`.
-pub enum RolledSecond {
+pub enum SecondAnswer {
     Value(Vec2),
     Refused(u8),
 }
 
 // The answer of `reversed`.
-pub enum RolledPiece {
+pub enum RolledAnswer {
     Value(Rolled),
     Refused(u8),
 }
 
 // The answer of `measure`.
-pub enum RolledMeasure {
+pub enum MeasureAnswer {
     Value(Measure),
     Refused(u8),
 }
 
 // The answer of `quadrature_pieces`, `chords` and `polyline`.
-pub enum RolledCount {
+pub enum CountAnswer {
     Value(u16),
     Refused(u8),
 }
 
 // The answer of `uv_box`.
-pub enum RolledBox {
+pub enum FlatBoxAnswer {
     Value(FlatBox),
     Refused(u8),
 }
 
 // ---- the value, or the refusal met first, where there is one
-fn settle_place(c: CheckedPlace) -> RolledPoint
+fn settle_place(c: CheckedPlace) -> PlaceAnswer
     ensures { λ o. ⌜ placeDue o ≡ settled (c .refusal) (c .value) ⌝ }
 {
     let n = c.refusal;
     let v = c.value;
     if n == 0 {
-        RolledPoint::Value(v)
+        PlaceAnswer::Value(v)
     } else {
-        RolledPoint::Refused(n)
+        PlaceAnswer::Refused(n)
     }
 }
 
-fn settle_measure(c: CheckedMeasure) -> RolledMeasure
+fn settle_measure(c: CheckedMeasure) -> MeasureAnswer
     ensures { λ o. ⌜ measuredDue o ≡ settled (c .refusal) (c .value) ⌝ }
 {
     let n = c.refusal;
     let v = c.value;
     if n == 0 {
-        RolledMeasure::Value(v)
+        MeasureAnswer::Value(v)
     } else {
-        RolledMeasure::Refused(n)
+        MeasureAnswer::Refused(n)
     }
 }
 
 // ---- and of a computation on a run, which may have met the refusal r before
-fn settle_second(r: u8, c: CheckedVec2) -> RolledSecond
+fn settle_second(r: u8, c: CheckedVec2) -> SecondAnswer
     ensures { λ o. ⌜ flatDue o ≡ settled (first r (c .refusal)) (c .value) ⌝ }
 {
     let n = earlier(r, c.refusal);
     let v = c.value;
     if n == 0 {
-        RolledSecond::Value(v)
+        SecondAnswer::Value(v)
     } else {
-        RolledSecond::Refused(n)
+        SecondAnswer::Refused(n)
     }
 }
 
-fn settle_count(r: u8, c: CheckedCount) -> RolledCount
+fn settle_count(r: u8, c: CheckedCount) -> CountAnswer
     ensures { λ o. ⌜ countDue o ≡ settled (first r (c .refusal)) (c .value) ⌝ }
 {
     let n = earlier(r, c.refusal);
     if n == 0 {
-        RolledCount::Value(c.value)
+        CountAnswer::Value(c.value)
     } else {
-        RolledCount::Refused(n)
+        CountAnswer::Refused(n)
     }
 }
 
-fn settle_box(r: u8, c: CheckedBox) -> RolledBox
+fn settle_box(r: u8, c: CheckedBox) -> FlatBoxAnswer
     ensures { λ o. ⌜ boxDue o ≡ settled (first r (c .refusal)) (c .value) ⌝ }
 {
     let n = earlier(r, c.refusal);
     let v = c.value;
     if n == 0 {
-        RolledBox::Value(v)
+        FlatBoxAnswer::Value(v)
     } else {
-        RolledBox::Refused(n)
+        FlatBoxAnswer::Refused(n)
     }
 }
 
@@ -182,7 +182,7 @@ impl Rolled {
     }
 
     // The point at t, from 0 at `from` to 1 at `to`, and its derivative in t.
-    pub fn at(self, t: f64) -> RolledPoint
+    pub fn at(self, t: f64) -> PlaceAnswer
         ensures { λ r. ⌜ placeDue r ≡ atDue self t ⌝ }
     {
         let n = fails(OUT_OF_RANGE, is_within(t));
@@ -190,12 +190,12 @@ impl Rolled {
         if n == 0 {
             settle_place(formula::at(self, t))
         } else {
-            RolledPoint::Refused(n)
+            PlaceAnswer::Refused(n)
         }
     }
 
     // The second derivative in t of `at`.
-    pub fn second(self, t: f64) -> RolledSecond
+    pub fn second(self, t: f64) -> SecondAnswer
         ensures { λ r. ⌜ flatDue r ≡ secondDue self t ⌝ }
     {
         let n = fails(OUT_OF_RANGE, is_within(t));
@@ -205,36 +205,36 @@ impl Rolled {
             let r = x.value;
             settle_second(x.refusal, second(r, t))
         } else {
-            RolledSecond::Refused(n)
+            SecondAnswer::Refused(n)
         }
     }
 
     // The same piece run the other way.
-    pub fn reversed(self) -> RolledPiece
+    pub fn reversed(self) -> RolledAnswer
         ensures { λ r. ⌜ pieceDue r ≡ reversedDue self ⌝ }
     {
         let n = self.tried();
         if n == 0 {
-            RolledPiece::Value(formula::reversed(self))
+            RolledAnswer::Value(formula::reversed(self))
         } else {
-            RolledPiece::Refused(n)
+            RolledAnswer::Refused(n)
         }
     }
 
     // The radius of the arc (0 for others), the angle that the piece turns and its length.
-    pub fn measure(self) -> RolledMeasure
+    pub fn measure(self) -> MeasureAnswer
         ensures { λ r. ⌜ measuredDue r ≡ measureDue self ⌝ }
     {
         let n = self.tried();
         if n == 0 {
             settle_measure(formula::measure(self))
         } else {
-            RolledMeasure::Refused(n)
+            MeasureAnswer::Refused(n)
         }
     }
 
     // Pieces to integrate over: at most 45° each, in the development and about the axis.
-    pub fn quadrature_pieces(self) -> RolledCount
+    pub fn quadrature_pieces(self) -> CountAnswer
         ensures { λ r. ⌜ countDue r ≡ quadratureDue self ⌝ }
     {
         let n = self.tried();
@@ -243,12 +243,12 @@ impl Rolled {
             let r = x.value;
             settle_count(x.refusal, quadrature_pieces(r))
         } else {
-            RolledCount::Refused(n)
+            CountAnswer::Refused(n)
         }
     }
 
     // Chords for drawing the piece at `radius` from the axis, each at most `chord` off.
-    pub fn chords(self, radius: f64, chord: f64) -> RolledCount
+    pub fn chords(self, radius: f64, chord: f64) -> CountAnswer
         ensures { λ r. ⌜ countDue r ≡ chordsDue self radius chord ⌝ }
     {
         let n = fails(OUT_OF_RANGE, is_within(radius) & is_within(chord));
@@ -259,13 +259,13 @@ impl Rolled {
             let r = x.value;
             settle_count(x.refusal, chords_of(r, radius, chord))
         } else {
-            RolledCount::Refused(n)
+            CountAnswer::Refused(n)
         }
     }
 
     // Chords of a polyline through the piece in its development, each at most `deviation` off it: 1
     // without a trace, at least 2 with one.
-    pub fn polyline(self, deviation: f64) -> RolledCount
+    pub fn polyline(self, deviation: f64) -> CountAnswer
         ensures { λ r. ⌜ countDue r ≡ polylineDue self deviation ⌝ }
     {
         let n = fails(OUT_OF_RANGE, is_within(deviation));
@@ -276,12 +276,12 @@ impl Rolled {
             let r = x.value;
             settle_count(x.refusal, polyline_of(r, deviation))
         } else {
-            RolledCount::Refused(n)
+            CountAnswer::Refused(n)
         }
     }
 
     // The least and greatest u and v; of an arc those of the whole circle.
-    pub fn uv_box(self) -> RolledBox
+    pub fn uv_box(self) -> FlatBoxAnswer
         ensures { λ r. ⌜ boxDue r ≡ uvBoxDue self ⌝ }
     {
         let n = self.tried();
@@ -290,13 +290,13 @@ impl Rolled {
             let r = x.value;
             settle_box(x.refusal, uv_box(r))
         } else {
-            RolledBox::Refused(n)
+            FlatBoxAnswer::Refused(n)
         }
     }
 
     // The unit normal at q of the wall over the piece, r from the axis: left of the piece's
     // direction.
-    pub fn normal(self, q: Vec2, r: f64) -> Vector
+    pub fn normal(self, q: Vec2, r: f64) -> VectorAnswer
         ensures { λ v. ⌜ vectorDue v ≡ normalDue self q r ⌝ }
     {
         let n = fails(OUT_OF_RANGE, is_within2(q) & is_within(r));
@@ -304,7 +304,7 @@ impl Rolled {
         if n == 0 {
             vectors::settle(formula::normal(self, q, r))
         } else {
-            Vector::Refused(n)
+            VectorAnswer::Refused(n)
         }
     }
 }

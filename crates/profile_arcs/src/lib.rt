@@ -4,7 +4,7 @@ ghost use mathlib.Core.Bool.{_&&_};
 ghost use Rattle.checked.specs.Checked.{numberDue};
 ghost use Rattle.vectors.specs.Vectors.{within2};
 ghost use Rattle.profile_arcs.specs.Profiles.{turnDue};
-use checked::Number;
+use checked::NumberAnswer;
 use checked::OUT_OF_RANGE;
 use checked::fails;
 use checked::settle;
@@ -29,14 +29,14 @@ impl ProfileArc {
     }
 
     // The angle turned about the centre from a to b; one point twice is a full circle.
-    pub fn turn(self, a: Vec2, b: Vec2) -> Number
+    pub fn turn(self, a: Vec2, b: Vec2) -> NumberAnswer
         ensures { λ r. ⌜ numberDue r ≡ turnDue self a b ⌝ }
     {
         let t = fails(OUT_OF_RANGE, self.is_handed(a, b));
         if t == 0 {
             settle(formula::turn(self, a, b))
         } else {
-            Number::Refused(t)
+            NumberAnswer::Refused(t)
         }
     }
 }

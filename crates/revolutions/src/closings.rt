@@ -10,9 +10,9 @@ use checked::OUT_OF_RANGE;
 use checked::earlier;
 use checked::fails;
 use cones::Cone;
-use integrals::Added;
 use integrals::CheckedIntegrals;
 use integrals::Integrals;
+use integrals::SumsAnswer;
 use integrals::SumsOutcome;
 use integrals::SurfaceIntegrals;
 use integrals::settle;
@@ -53,7 +53,7 @@ fn are_finite(acc: Integrals, sums: Integrals) -> bool
 }
 
 // The sums of a body with those of a face added, once its last path is.
-pub fn closed(acc: Integrals, cone: Cone, sums: Integrals) -> Added
+pub fn closed(acc: Integrals, cone: Cone, sums: Integrals) -> SumsAnswer
     ensures { λ r. ⌜ addedDue r ≡ closeDue cone sums acc ⌝ }
 {
     let t = fails(OUT_OF_RANGE, cone.is_within());
@@ -61,7 +61,7 @@ pub fn closed(acc: Integrals, cone: Cone, sums: Integrals) -> Added
     if t == 0 {
         settle(joined(acc, cone.convex, sums))
     } else {
-        Added::Refused(t)
+        SumsAnswer::Refused(t)
     }
 }
 

@@ -18,10 +18,10 @@ use Rattle.surfaces.specs.declared.Surface.{Surface}
 use Rattle.surfaces.specs.declared.Surface.the-variants as surface
 use Rattle.surfaces.specs.declared.SurfaceAnswer.{SurfaceAnswer}
 use Rattle.surfaces.specs.declared.SurfaceAnswer.the-variants as answer
-use Rattle.surfaces.specs.declared.SurfacePlane.{SurfacePlane}
-use Rattle.surfaces.specs.declared.SurfacePlane.the-variants as surface-plane
-use Rattle.surfaces.specs.declared.SurfaceCone.{SurfaceCone}
-use Rattle.surfaces.specs.declared.SurfaceCone.the-variants as surface-cone
+use Rattle.surfaces.specs.declared.PlaneAnswer.{PlaneAnswer}
+use Rattle.surfaces.specs.declared.PlaneAnswer.the-variants as surface-plane
+use Rattle.surfaces.specs.declared.ConeAnswer.{ConeAnswer}
+use Rattle.surfaces.specs.declared.ConeAnswer.the-variants as surface-cone
 use Rattle.surfaces.specs.Surfaces.{planeOf, coneOf, movedC, normalC}
 
 -- ---- what the code's answers say
@@ -29,12 +29,12 @@ abbrev pub surfaceDue : SurfaceAnswer → Due Surface
 surfaceDue (answer.Value s) = due s
 surfaceDue (answer.Refused n) = refused n
 
-abbrev pub surfacePlaneDue : SurfacePlane → Due (Optional Plane)
+abbrev pub surfacePlaneDue : PlaneAnswer → Due (Optional Plane)
 surfacePlaneDue (surface-plane.Value p) = due (some p)
 surfacePlaneDue surface-plane.Nothing = due none
 surfacePlaneDue (surface-plane.Refused n) = refused n
 
-abbrev pub surfaceConeDue : SurfaceCone → Due (Optional Cone)
+abbrev pub surfaceConeDue : ConeAnswer → Due (Optional Cone)
 surfaceConeDue (surface-cone.Value c) = due (some c)
 surfaceConeDue surface-cone.Nothing = due none
 surfaceConeDue (surface-cone.Refused n) = refused n

@@ -12,7 +12,7 @@ use motions::Rigid;
 use motions::is_within_rigid;
 use pieces::Rolled;
 use vectors::Vec3;
-use vectors::Vector;
+use vectors::VectorAnswer;
 use vectors::is_within3;
 
 pub mod formula;
@@ -53,14 +53,14 @@ pub enum SurfaceAnswer {
 }
 
 // The answer of `plane`: nothing for the other surfaces.
-pub enum SurfacePlane {
+pub enum PlaneAnswer {
     Value(Plane),
     Nothing,
     Refused(u8),
 }
 
 // The answer of `revolution`: nothing for a plane and a wall.
-pub enum SurfaceCone {
+pub enum ConeAnswer {
     Value(Cone),
     Nothing,
     Refused(u8),
@@ -96,34 +96,34 @@ impl Surface {
     }
 
     // The plane that the surface is, where it is one.
-    pub fn plane(self) -> SurfacePlane
+    pub fn plane(self) -> PlaneAnswer
         ensures { λ r. ⌜ surfacePlaneDue r ≡ planeDue self ⌝ }
     {
         let n = self.tried();
         if n == 0 {
             match self {
-                Surface::Plane(p) => SurfacePlane::Value(p),
-                Surface::Cylinder(_) => SurfacePlane::Nothing,
-                Surface::Cone(_) => SurfacePlane::Nothing,
-                Surface::Wall(_) => SurfacePlane::Nothing,
+                Surface::Plane(p) => PlaneAnswer::Value(p),
+                Surface::Cylinder(_) => PlaneAnswer::Nothing,
+                Surface::Cone(_) => PlaneAnswer::Nothing,
+                Surface::Wall(_) => PlaneAnswer::Nothing,
             }
         } else {
-            SurfacePlane::Refused(n)
+            PlaneAnswer::Refused(n)
         }
     }
 
     // A cylinder as a cone of no slope, a cone as itself.
-    pub fn revolution(self) -> SurfaceCone
+    pub fn revolution(self) -> ConeAnswer
         ensures { λ r. ⌜ surfaceConeDue r ≡ revolutionDue self ⌝ }
     {
         let n = self.tried();
         if n == 0 {
             match self {
-                Surface::Plane(_) => SurfaceCone::Nothing,
+                Surface::Plane(_) => ConeAnswer::Nothing,
                 Surface::Cylinder(c) => {
                     let o = c.origin;
                     let a = c.axis;
-                    SurfaceCone::Value(Cone {
+                    ConeAnswer::Value(Cone {
                         origin: o,
                         axis: a,
                         radius: c.radius,
@@ -131,11 +131,11 @@ impl Surface {
                         convex: c.convex,
                     })
                 }
-                Surface::Cone(c) => SurfaceCone::Value(c),
-                Surface::Wall(_) => SurfaceCone::Nothing,
+                Surface::Cone(c) => ConeAnswer::Value(c),
+                Surface::Wall(_) => ConeAnswer::Nothing,
             }
         } else {
-            SurfaceCone::Refused(n)
+            ConeAnswer::Refused(n)
         }
     }
 
@@ -153,7 +153,7 @@ impl Surface {
     }
 
     // The unit normal out of the body at p, a point of the surface.
-    pub fn normal_at(self, p: Vec3) -> Vector
+    pub fn normal_at(self, p: Vec3) -> VectorAnswer
         ensures { λ r. ⌜ vectorDue r ≡ normalDue self p ⌝ }
     {
         let n = fails(OUT_OF_RANGE, is_within3(p));
@@ -161,7 +161,7 @@ impl Surface {
         if n == 0 {
             vectors::settle(formula::normal(self, p))
         } else {
-            Vector::Refused(n)
+            VectorAnswer::Refused(n)
         }
     }
 }

@@ -13,8 +13,8 @@ use Rattle.meets.specs.Meets as meets
 use Rattle.meets.specs.Entries.{meetWithin}
 use Rattle.traces.specs.declared.Trace.{Trace}
 use Rattle.traces.specs.declared.Trace.the-variants as trace
-use Rattle.traces.specs.declared.Height.{Height}
-use Rattle.traces.specs.declared.Height.the-variants as height
+use Rattle.traces.specs.declared.HeightAnswer.{HeightAnswer}
+use Rattle.traces.specs.declared.HeightAnswer.the-variants as height
 
 -- a result, or none
 pub data Optional (A : Type 0) : Type 0 where
@@ -22,7 +22,7 @@ pub data Optional (A : Type 0) : Type 0 where
   none : Optional A
 
 -- what the code's answer says
-abbrev pub heightDue : Height → Due (Optional Float)
+abbrev pub heightDue : HeightAnswer → Due (Optional Float)
 heightDue (height.Value v) = due (some v)
 heightDue height.Nothing = due none
 heightDue (height.Refused n) = refused n

@@ -8,15 +8,15 @@ use Rattle.checked.specs.Checked.{Checked, within, given, Due, due, refused, se
 use Rattle.checked.specs.Tests.{fails, passing}
 use Rattle.vectors.specs.Vectors.{within3, plusC, minusC, timesC, negC, crossC, dotC}
 use Rattle.vectors.specs.declared.Vec3.{Vec3}
-use Rattle.vectors.specs.declared.Vector.{Vector}
-use Rattle.vectors.specs.declared.Vector.the-variants as vector
+use Rattle.vectors.specs.declared.VectorAnswer.{VectorAnswer}
+use Rattle.vectors.specs.declared.VectorAnswer.the-variants as vector
 use Rattle.vectors.specs.declared.Coordinates.{Coordinates}
-use Rattle.vectors.specs.declared.Index.{Index}
-use Rattle.vectors.specs.declared.Index.the-variants as index
+use Rattle.vectors.specs.declared.IndexAnswer.{IndexAnswer}
+use Rattle.vectors.specs.declared.IndexAnswer.the-variants as index
 use Rattle.float_bits.specs.FloatBits.{fabs}
 
 -- ---- what the code's answers say
-abbrev pub vectorDue : Vector → Due Vec3
+abbrev pub vectorDue : VectorAnswer → Due Vec3
 vectorDue (vector.Value v) = due v
 vectorDue (vector.Refused n) = refused n
 
@@ -24,7 +24,7 @@ vectorDue (vector.Refused n) = refused n
 abbrev pub coordinatesDue : Coordinates → Due (List Float)
 coordinatesDue c = settled (c .refusal) (c .values)
 
-abbrev pub indexDue : Index → Due ℕ
+abbrev pub indexDue : IndexAnswer → Due ℕ
 indexDue (index.Value k) = due k
 indexDue (index.Refused n) = refused n
 

@@ -5,7 +5,7 @@ ghost use Rattle.checked.specs.Checked.{numberDue, settled, within};
 ghost use Rattle.vectors.specs.Vectors.{within2, within3, nines, plane, space};
 ghost use Rattle.vectors.specs.Entries.{vectorDue, coordinatesDue, dotDue, crossDue, sumDue, differenceDue, negationDue, timesDue, toArrayDue, largest, dominantAxisDue, indexDue};
 use checked::CheckedNumber;
-use checked::Number;
+use checked::NumberAnswer;
 use checked::OUT_OF_RANGE;
 use checked::fails;
 use checked::is_within;
@@ -33,7 +33,7 @@ pub struct CheckedVec3 {
 }
 
 // The answer of an entry whose result is a vector.
-pub enum Vector {
+pub enum VectorAnswer {
     Value(Vec3),
     Refused(u8),
 }
@@ -45,7 +45,7 @@ pub struct Coordinates {
 }
 
 // The answer of an entry whose result is an index.
-pub enum Index {
+pub enum IndexAnswer {
     Value(usize),
     Refused(u8),
 }
@@ -76,20 +76,20 @@ fn is_within_times(a: Vec3, k: f64) -> bool
 }
 
 // The vector, or its refusal where there is one.
-pub fn settle(c: CheckedVec3) -> Vector
+pub fn settle(c: CheckedVec3) -> VectorAnswer
     ensures { λ r. ⌜ vectorDue r ≡ settled (c .refusal) (c .value) ⌝ }
 {
     let r = c.refusal;
     let v = c.value;
     if r == 0 {
-        Vector::Value(v)
+        VectorAnswer::Value(v)
     } else {
-        Vector::Refused(r)
+        VectorAnswer::Refused(r)
     }
 }
 
 // The vector, or a refusal where one of its numbers is not finite.
-pub fn tried(v: Vec3) -> Vector
+pub fn tried(v: Vec3) -> VectorAnswer
     ensures { λ r. ⌜ vectorDue r ≡ settled (nines v) v ⌝ }
 {
     settle(CheckedVec3 {
@@ -151,7 +151,7 @@ impl Vec3 {
         Self { x: x, y: y, z: z }
     }
 
-    pub fn dot(self, o: Self) -> Number
+    pub fn dot(self, o: Self) -> NumberAnswer
         ensures { λ r. ⌜ numberDue r ≡ dotDue self o ⌝ }
     {
         let t = fails(OUT_OF_RANGE, are_within(self, o));
@@ -162,81 +162,81 @@ impl Vec3 {
                 value: d,
             })
         } else {
-            Number::Refused(t)
+            NumberAnswer::Refused(t)
         }
     }
 
-    pub fn cross(self, o: Self) -> Vector
+    pub fn cross(self, o: Self) -> VectorAnswer
         ensures { λ r. ⌜ vectorDue r ≡ crossDue self o ⌝ }
     {
         let t = fails(OUT_OF_RANGE, are_within(self, o));
         if t == 0 {
             tried(formula::cross(self, o))
         } else {
-            Vector::Refused(t)
+            VectorAnswer::Refused(t)
         }
     }
 
     // self + o
-    pub fn sum(self, o: Self) -> Vector
+    pub fn sum(self, o: Self) -> VectorAnswer
         ensures { λ r. ⌜ vectorDue r ≡ sumDue self o ⌝ }
     {
         let t = fails(OUT_OF_RANGE, are_within(self, o));
         if t == 0 {
             tried(formula::plus(self, o))
         } else {
-            Vector::Refused(t)
+            VectorAnswer::Refused(t)
         }
     }
 
     // self - o
-    pub fn difference(self, o: Self) -> Vector
+    pub fn difference(self, o: Self) -> VectorAnswer
         ensures { λ r. ⌜ vectorDue r ≡ differenceDue self o ⌝ }
     {
         let t = fails(OUT_OF_RANGE, are_within(self, o));
         if t == 0 {
             tried(formula::minus(self, o))
         } else {
-            Vector::Refused(t)
+            VectorAnswer::Refused(t)
         }
     }
 
     // -self
-    pub fn negation(self) -> Vector
+    pub fn negation(self) -> VectorAnswer
         ensures { λ r. ⌜ vectorDue r ≡ negationDue self ⌝ }
     {
         let t = fails(OUT_OF_RANGE, is_within3(self));
         if t == 0 {
             tried(formula::neg(self))
         } else {
-            Vector::Refused(t)
+            VectorAnswer::Refused(t)
         }
     }
 
     // self * k
-    pub fn times(self, k: f64) -> Vector
+    pub fn times(self, k: f64) -> VectorAnswer
         ensures { λ r. ⌜ vectorDue r ≡ timesDue self k ⌝ }
     {
         let t = fails(OUT_OF_RANGE, is_within_times(self, k));
         if t == 0 {
             tried(formula::times(self, k))
         } else {
-            Vector::Refused(t)
+            VectorAnswer::Refused(t)
         }
     }
 
-    pub fn dominant_axis(self) -> Index
+    pub fn dominant_axis(self) -> IndexAnswer
         ensures { λ r. ⌜ indexDue r ≡ dominantAxisDue self ⌝ }
     {
         let t = fails(OUT_OF_RANGE, is_within3(self));
         if t == 0 {
-            Index::Value(largest(
+            IndexAnswer::Value(largest(
                 float_bits::fabs(self.x),
                 float_bits::fabs(self.y),
                 float_bits::fabs(self.z),
             ))
         } else {
-            Index::Refused(t)
+            IndexAnswer::Refused(t)
         }
     }
 

@@ -11,8 +11,8 @@ use checked::OUT_OF_RANGE;
 use checked::earlier;
 use checked::fails;
 use checked::tried_neutral;
-use integrals::Added;
 use integrals::Integrals;
+use integrals::SumsAnswer;
 use integrals::SumsOutcome;
 use integrals::settle;
 use pieces::Rolled;
@@ -53,14 +53,14 @@ fn tried_wall(acc: Integrals, p: Rolled, r0: f64, r1: f64, o: Vec3) -> u8
 
 // The sums of a body with those of the wall over a piece added, from r0 to r1 from the axis of its
 // development; volumes are measured from o.
-pub fn with_cut_wall(acc: Integrals, p: Rolled, r0: f64, r1: f64, o: Vec3) -> Added
+pub fn with_cut_wall(acc: Integrals, p: Rolled, r0: f64, r1: f64, o: Vec3) -> SumsAnswer
     ensures { λ r. ⌜ addedDue r ≡ wallDue p r0 r1 o acc ⌝ }
 {
     let t = tried_wall(acc, p, r0, r1, o);
     if t == 0 {
         settle(formula::over(p, r0, r1, o, acc))
     } else {
-        Added::Refused(t)
+        SumsAnswer::Refused(t)
     }
 }
 

@@ -9,17 +9,17 @@ use Rattle.waves.specs.Values.{derivativesC}
 use Rattle.waves.specs.declared.turning_points.Span.{Span}
 use Rattle.waves.specs.TurningPoints.{rangeC}
 use Rattle.waves.specs.declared.Wave.{Wave}
-use Rattle.waves.specs.declared.WaveJet.{WaveJet}
-use Rattle.waves.specs.declared.WaveJet.the-variants as wave-jet
-use Rattle.waves.specs.declared.WaveSpan.{WaveSpan}
-use Rattle.waves.specs.declared.WaveSpan.the-variants as wave-span
+use Rattle.waves.specs.declared.WaveAnswer.{WaveAnswer}
+use Rattle.waves.specs.declared.WaveAnswer.the-variants as wave-jet
+use Rattle.waves.specs.declared.SpanAnswer.{SpanAnswer}
+use Rattle.waves.specs.declared.SpanAnswer.the-variants as wave-span
 
 -- ---- what the code's answers say
-abbrev pub jetDue : WaveJet → Due Jet
+abbrev pub jetDue : WaveAnswer → Due Jet
 jetDue (wave-jet.Value v) = due v
 jetDue (wave-jet.Refused n) = refused n
 
-abbrev pub spanDue : WaveSpan → Due Span
+abbrev pub spanDue : SpanAnswer → Due Span
 spanDue (wave-span.Value v) = due v
 spanDue (wave-span.Refused n) = refused n
 
