@@ -78,8 +78,8 @@ fn paths(i: &[f64]) -> Vec<Path> {
     i[1..].chunks_exact(29).take(i[0] as usize).map(path).collect()
 }
 
-/// Numbers that every row of the bench fits in.
-const ROW: usize = 3 * 65_535;
+/// The longest row that a curve can ask for: three numbers for each point, one point fewer than chords.
+const ROW: usize = 3 * 4_095;
 
 /// datum-math's methods, which the compiler puts into the loops of other crates.
 pub const SMALL: &[(&str, Ready)] = calls! {

@@ -1,6 +1,8 @@
 //! Curves of edges (an arc, or a piece at a radius: 27 numbers and three tags) and surfaces of
 //! faces (26 numbers, and tags).
 
+use std::ops::Range;
+
 use datum_math::Vec2;
 
 use crate::arcs::{self, Kind};
@@ -9,6 +11,7 @@ use crate::draw::{Draw, SPECIAL};
 use crate::entry::{Entry, at, entry, out};
 use crate::pieces::{self, NO_TAGS, chord, tag_as_number};
 use crate::shapes::{self, Shape, TIMED, put, shapes, v};
+use crate::track::MOST;
 
 unsafe extern "C" {
     safe fn jr_curve_reversed(c: &[f64; 27], kind: u32, arc: u32, trace: u32, out: &mut [f64; 27], tags: &mut [u32; 2]) -> u32;
@@ -488,13 +491,14 @@ fn with_row(d: &mut Draw, i: &mut [f64], edge: Edge) {
     i[CURVE + 7] = row_length(d, i, ROW);
 }
 
-/// Pieces that turn many times about the axis, up to the most chords that are accepted.
-const LONG_ROW: usize = 3 * 65_536;
+/// Room for more points than any curve has.
+const LONG_ROW: usize = 3 * MOST as usize;
 
-fn with_long_row(d: &mut Draw, i: &mut [f64], most: f64) {
+/// Pieces that turn many times about the axis, of about so many chords.
+fn with_long_row(d: &mut Draw, i: &mut [f64], chords: Range<f64>) {
     with_ends(d, i, Edge::Piece(Shape::Straight));
     i[9] = d.magnitude(-8, 3).abs();
-    let turns = d.between(0.0, most) / 64.0;
+    let turns = d.between(chords.start, chords.end) / 64.0;
     (i[10], i[12]) = (0.0, (i[9] * std::f64::consts::TAU * turns).min(1_048_576.0));
     i[13] = i[11] + i[9] * d.between(-1.0, 1.0);
     i[26] = i[9];
@@ -507,7 +511,8 @@ fn refused_later(d: &mut Draw, i: &mut [f64]) {
     with_ends(d, i, Edge::Piece(Shape::Straight));
     i[9] = d.magnitude(-4, -1).abs();
     let limit = 1_048_576.0 * i[9];
-    let length = i[9] * d.between(10.0, 3000.0);
+    // At 64 chords a turn fewer than are accepted.
+    let length = i[9] * d.between(10.0, 400.0);
     i[10] = limit - length * d.fraction();
     (i[12], i[13]) = (i[10] + length, i[11]);
     i[26] = i[9];
@@ -916,10 +921,11 @@ pub const LISTS: &[Entry] = &[
         name: "curve_long_rows",
         replayed: false,
         timed: 0,
-        ..with_row!(LONG_ROW, 2_000, &[
-            ("about 64 points", |d, i| with_long_row(d, i, 130.0)),
-            ("hundreds of points", |d, i| with_long_row(d, i, 1000.0)),
-            ("up to the most points", |d, i| with_long_row(d, i, 65_600.0)),
+        ..with_row!(LONG_ROW, 20_000, &[
+            ("about 64 points", |d, i| with_long_row(d, i, 0.0..130.0)),
+            ("hundreds of points", |d, i| with_long_row(d, i, 0.0..1000.0)),
+            ("up to the most points", |d, i| with_long_row(d, i, 0.0..MOST)),
+            ("about the most points", |d, i| with_long_row(d, i, MOST - 2.0..MOST + 2.0)),
             ("refused on the way", refused_later),
         ])
     },

@@ -571,7 +571,7 @@ const PIECES: u64 = 40;
 /// A piece over which there is not too much to sum, nearly always; seldom one of as many pieces as are
 /// accepted, or one more.
 fn short_piece(d: &mut Draw, shape: Shape) -> [f64; PIECE] {
-    if shape == Shape::Limits && d.below(10_000) == 0 {
+    if shape == Shape::Limits && d.below(1_000) == 0 {
         let mut w = [0.0; PIECE];
         pieces::many_pieces(d, &mut w, std::f64::consts::FRAC_PI_4);
         return w;

@@ -5,6 +5,7 @@ use std::f64::consts::{FRAC_PI_4, PI, TAU};
 use crate::draw::{Draw, SPECIAL};
 use crate::entry::{Entry, UNTOUCHED, at, entry, out};
 use crate::shapes::{self, PIECE, Shape, TIMED, shapes};
+use crate::track::MOST;
 
 unsafe extern "C" {
     safe fn jr_piece_uv_box(w: &[f64; 26], arc: u32, trace: u32, out: &mut [f64; 4]) -> u32;
@@ -581,7 +582,7 @@ pub fn many_pieces(d: &mut Draw, i: &mut [f64], each: f64) {
     i[..PIECE].copy_from_slice(&shapes::piece(d, Shape::Straight));
     i[9] = d.magnitude(-8, 3).abs();
     (i[10], i[11], i[13]) = (0.0, 0.0, 0.0);
-    let whole = 65_535.0 + d.whole(-1, 1) as f64;
+    let whole = MOST + d.whole(-1, 1) as f64;
     let count = if d.below(2) == 0 { whole } else { whole + d.between(-1.0, 1.0) };
     i[12] = (i[9] * count * each).min(1_048_576.0);
 }
@@ -609,7 +610,7 @@ fn most_deviations(d: &mut Draw, i: &mut [f64], shape: Shape) {
     if shape == Shape::Limits && traced && d.below(4) == 0 {
         // At deviation 1 so many chords are due; they go with the root of its inverse.
         let chords = rust::rolled(i, 0, i[27] as u32).polyline(1e-12) as f64;
-        let ratio = chords / (65_535.0 + d.between(-2.0, 2.0));
+        let ratio = chords / (MOST + d.between(-2.0, 2.0));
         let deviation = 1e-12 * ratio * ratio;
         if deviation.is_finite() && deviation > 0.0 {
             i[PIECE] = deviation;

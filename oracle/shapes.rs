@@ -7,6 +7,7 @@ use datum_math::{Rigid, Vec3};
 
 use crate::classes;
 use crate::draw::{Draw, SPECIAL};
+use crate::track::MOST;
 
 /// Classes of a development's numbers and of those beside it.
 #[derive(Clone, Copy)]
@@ -454,7 +455,7 @@ fn at_limits(d: &mut Draw, i: &mut [f64; PIECE]) {
     }
     if d.below(8) == 0 {
         // About as many pieces or chords as are accepted.
-        let most = i[9] * 65_535.0 * d.pick(&[PI / 4.0, TAU / 12.0, TAU / 64.0]) * d.between(0.999, 1.001);
+        let most = i[9] * MOST * d.pick(&[PI / 4.0, TAU / 12.0, TAU / 64.0]) * d.between(0.999, 1.001);
         (i[10], i[11], i[13]) = (0.0, 0.0, 0.0);
         i[12] = d.near(most, 2);
     }

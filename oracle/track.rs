@@ -141,6 +141,9 @@ impl Num {
     }
 }
 
+/// The most chords or pieces that are accepted.
+pub const MOST: f64 = 4_096.0;
+
 /// What the way taken so far, and its results, have met.
 pub struct Path(Met);
 
@@ -164,7 +167,7 @@ impl Path {
     /// A count of chords or pieces, already whole.
     pub fn count(&mut self, x: Num) -> u64 {
         let n = self.reads(x);
-        if n > 65_535.0 {
+        if n > MOST {
             self.meets(10);
         }
         n as u64

@@ -215,6 +215,39 @@ static void filled(int line, uint32_t got, const double *numbers, int count, ...
 /* A quarter turn about z, then a shift by (1, 2, 3). */
 static const double move[JR_RIGID] = {0, -1, 0, 1, 0, 0, 0, 0, 1, 1, 2, 3};
 
+/* A row of which the last place lies behind the longest curve's points. */
+static double most[JR_CURVE_ROW + 1];
+
+static uint32_t drawn(const double c[JR_CURVE], size_t length)
+{
+    return jr_curve_inner_points(c, JR_CURVE_PIECE, JR_ARC_NONE, JR_TRACE_NONE, zero, zero, 0, most, length, whole);
+}
+
+/* Along the axis of a pipe, 64 chords a turn: 4,096 for 19,301 mm, the most that there may be, and one more for 19,302. */
+static void longest(void)
+{
+    double c[JR_CURVE] = {0, 0, 0, 0, 0, 1, 1, 0, 0, 48, 0, 0, 0, 19301};
+    c[JR_CURVE_RADIUS] = 48;
+    for (int k = 0; k <= JR_CURVE_ROW; k++)
+        most[k] = UNTOUCHED;
+    COUNTED(jr_piece_chords(c, JR_ARC_NONE, JR_TRACE_NONE, 48, 0, whole), 4096);
+    answered(__LINE__, drawn(c, JR_CURVE_ROW - 1), JR_ROW_TOO_SHORT);
+    c[JR_PIECE_TO + 1] = 19302;
+    answered(__LINE__, jr_piece_chords(c, JR_ARC_NONE, JR_TRACE_NONE, 48, 0, whole), JR_COUNT_TOO_LARGE);
+    answered(__LINE__, drawn(c, JR_CURVE_ROW + 1), JR_COUNT_TOO_LARGE);
+    answered(__LINE__, drawn(c, 0), JR_COUNT_TOO_LARGE);
+    int changed = 0;
+    for (int k = 0; k <= JR_CURVE_ROW; k++)
+        changed += most[k] != UNTOUCHED;
+    NUMBER(changed, 0);
+    c[JR_PIECE_TO + 1] = 19301;
+    COUNTED(drawn(c, JR_CURVE_ROW), JR_CURVE_ROW);
+    NUMBER(most[0], 48);
+    NUMBER(most[2], 19301.0 / 4096);
+    NUMBER(most[JR_CURVE_ROW - 1], 19301 * 4095.0 / 4096);
+    NUMBER(most[JR_CURVE_ROW], UNTOUCHED);
+}
+
 static void curves(void)
 {
     const double a[JR_CURVE] = {0, 0, 0, 0, 0, 1, 5}, from[3] = {5, 0, 0}, to[3] = {0, 5, 0};
@@ -245,6 +278,7 @@ static void curves(void)
     NUMBER(row[8], 1.75);
     old(2, UNTOUCHED, UNTOUCHED);
     REFUSED(jr_curve_inner_points(w, JR_CURVE_PIECE, JR_ARC_NONE, JR_TRACE_NONE, from, to, 10, out, 8, whole), JR_ROW_TOO_SHORT);
+    longest();
     WRITTEN(jr_curve_extend_bounds(a, JR_CURVE_ARC, 0, 0, to, from, old(6, 0.0, 0.0, 0.0, 0.0, 0.0, 0.0)), 6, -5.0, -5.0, 0.0, 5.0, 5.0, 0.0);
     WRITTEN(jr_curve_extend_bounds(w, JR_CURVE_PIECE, JR_ARC_NONE, JR_TRACE_NONE, from, to, old(6, 1.0, 1.0, 1.0, 1.0, 1.0, 1.0)), 6, 0.0, 0.0, 1.0, 10.0, 10.0, 2.0);
 }

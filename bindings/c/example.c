@@ -6,7 +6,6 @@
 #include <juniperreef.h>
 #include <math.h>
 #include <stdio.h>
-#include <stdlib.h>
 #include <string.h>
 
 #define HALF_A_TURN 3.141592653589793
@@ -66,27 +65,14 @@ static uint32_t widen(const struct cut *c, const double edge[JR_CURVE], double b
     return answer;
 }
 
-/* The points of the edge in a row of their own, which the caller frees; `count` numbers of it are
-   written. */
-static uint32_t drawn(const struct cut *c, const double edge[JR_CURVE], double **row, uint64_t *count)
-{
-    uint64_t chords = 0;
-    uint32_t answer = jr_piece_chords(edge, JR_ARC_NONE, JR_TRACE_MEET, c->outer, c->chord, &chords);
-    if (answer != JR_OK)
-        return answer;
-    size_t length = JR_VEC3 * (size_t)(chords - 1);
-    *row = (double *)malloc((length + 1) * sizeof **row);
-    if (!*row)
-        exit(1);
-    return jr_curve_inner_points(edge, JR_CURVE_PIECE, JR_ARC_NONE, JR_TRACE_MEET, none, none, c->chord, *row, length,
-                                 count);
-}
+/* What the points of an edge are written to: no curve asks for more. */
+static double row[JR_CURVE_ROW];
 
 int main(void)
 {
     struct cut c;
     for (int k = 1; read_cut(&c); k++) {
-        double edge[JR_CURVE], blank[4], *row = NULL;
+        double edge[JR_CURVE], blank[4];
         double box[JR_BOUNDS] = {INFINITY, INFINITY, INFINITY, -INFINITY, -INFINITY, -INFINITY};
         uint64_t count = 0;
         edge_of(&c, edge);
@@ -94,7 +80,8 @@ int main(void)
         if (answer == JR_OK)
             answer = widen(&c, edge, box);
         if (answer == JR_OK)
-            answer = drawn(&c, edge, &row, &count);
+            answer = jr_curve_inner_points(edge, JR_CURVE_PIECE, JR_ARC_NONE, JR_TRACE_MEET, none, none, c.chord, row,
+                                           JR_CURVE_ROW, &count);
         if (answer == JR_OK) {
             printf("cut %d: %d points between its ends\n", k, (int)(count / JR_VEC3));
             print("  blank, u from and to", blank + JR_UV_BOX_U, 2);
@@ -106,7 +93,6 @@ int main(void)
         } else {
             printf("cut %d: refused, %u %s\n", k, (unsigned)answer, jr_name(answer));
         }
-        free(row);
     }
     return 0;
 }

@@ -56,7 +56,9 @@ enum jr_answer {
                                     of no length, a point on its axis, a pipe that is missed, or a
                                     pipe that is only touched, as by a branch as wide as its main
                                     pipe */
-    JR_COUNT_TOO_LARGE = 10,     /* A count, or a corner to print, is above its limit */
+    JR_COUNT_TOO_LARGE = 10,     /* A count, or a corner to print, is above its limit: more than
+                                    4,096 chords or pieces, or more than 4,096 turning points of a
+                                    wave */
     JR_MALFORMED_FILE = 11,      /* The bytes are not those of an edge file */
     JR_UNKNOWN_TAG = 254,        /* A tag is none of those below */
     JR_NONE = 255,               /* There is no such result */
@@ -169,10 +171,11 @@ enum {
     JR_UNROLLED_RADIUS = 2,     /* 1 number, what jr_development_unroll writes */
 };
 
-/* A row that the inner points of any arc fit in: 63 points. A piece has one point fewer than
-   `jr_piece_chords`, up to 65,534. */
+/* Rows that inner points always fit in, three numbers for each point: a call that lends one is
+   never refused by JR_ROW_TOO_SHORT. A piece has one point fewer than jr_piece_chords says. */
 enum {
-    JR_ARC_ROW = 189,
+    JR_ARC_ROW = 189,     /* of any arc: 63 points */
+    JR_CURVE_ROW = 12285, /* of any curve: 4,095 points */
 };
 
 /* The tag `arc` of a piece: counterclockwise or clockwise. */

@@ -9,6 +9,10 @@ use crate::arcs::{ARC_ROW, points};
 use crate::ffi::{self, part};
 use crate::{Bounds, Refusal, Rigid, Rolled, Vec3};
 
+/// A row of so many numbers takes the inner points of every curve: three for each of 4,095 points, one
+/// point fewer than the most chords.
+pub const CURVE_ROW: usize = 12_285;
+
 /// The curve of an edge: an arc, or a piece of a development at a distance from its axis.
 ///
 /// The box of a saddle, the end of a branch of radius 30 that is cut to fit a main pipe of radius
@@ -97,8 +101,8 @@ impl Curve {
 
     /// Writes points between `from` and `to`, for chords that stay within `chord` of the curve, to
     /// the start of `row`, three numbers each, and gives the part written. The rest of the row
-    /// keeps its content. A piece has ends of its own: there `from` and `to` are tried and not
-    /// used.
+    /// keeps its content. A row of [`CURVE_ROW`] numbers always suffices. A piece has ends of its
+    /// own: there `from` and `to` are tried and not used.
     #[inline]
     pub fn inner_points<'row>(
         &self,

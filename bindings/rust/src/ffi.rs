@@ -355,7 +355,7 @@ pub fn number(call: impl FnOnce(&mut [f64; 1]) -> u32) -> Result<f64, Refusal> {
     numbers(call).map(|[x]| x)
 }
 
-/// The count that a call writes. Counts end at 196,602, so every `usize` of 32 bits holds them.
+/// The count that a call writes. None is above `CURVE_ROW`, so every `usize` holds it.
 #[inline]
 pub fn count(call: impl FnOnce(&mut [u64; 1]) -> u32) -> Result<usize, Refusal> {
     let mut out = [0];

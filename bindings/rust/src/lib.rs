@@ -65,7 +65,7 @@ mod surfaces;
 mod vectors;
 
 pub use arcs::{ARC_ROW, Arc, ProfileArc, per_turn};
-pub use curves::Curve;
+pub use curves::{CURVE_ROW, Curve};
 pub use developments::{Development, Meet, Trace, Wave};
 pub use faces::{Frame, Integrals, Path, Revolution, frame, revolution, segment, wall};
 pub use pieces::Rolled;

@@ -41,7 +41,7 @@ pub enum Refusal {
     /// on its axis, a pipe that is missed, or one that is only touched, as by a branch as wide as
     /// its main pipe.
     NotFinite = 9,
-    /// 10: a wave turns more than 4,096 times, or a count of chords or pieces is above 65,535.
+    /// 10: a wave turns more than 4,096 times, or a count of chords or pieces is above 4,096.
     CountTooLarge = 10,
 }
 
@@ -109,7 +109,7 @@ impl Refusal {
                  or a pipe that is only touched, as by a branch as wide as its main pipe"
             }
             Self::CountTooLarge => {
-                "a wave turns more than 4,096 times, or more than 65,535 chords or pieces are due: \
+                "a wave turns more than 4,096 times, or more than 4,096 chords or pieces are due: \
                  shorten the piece or allow a greater deviation"
             }
         }

@@ -1,9 +1,11 @@
 //! The crate's declarations are those of the library's source: the same functions, of the same
-//! types. A linker sees names alone. And its version is that of the other bindings.
+//! types. A linker sees names alone. And its version and its rows are those of the other bindings.
 
 use std::collections::BTreeMap;
 use std::fs;
 use std::path::Path;
+
+use juniperreef::{ARC_ROW, CURVE_ROW};
 
 /// The types that a function takes, and then the one that it gives.
 type Types = Vec<String>;
@@ -40,6 +42,19 @@ fn one_version_for_all_bindings() {
     match fs::read_to_string(file) {
         Ok(version) => assert_eq!(version.trim(), env!("CARGO_PKG_VERSION")),
         Err(_) => println!("not compared: no VERSION beside the crate"),
+    }
+}
+
+/// The header is made from the sources.
+#[test]
+fn rows_are_the_headers() {
+    let file = Path::new(env!("CARGO_MANIFEST_DIR")).join("../c/juniperreef.h");
+    let Ok(header) = fs::read_to_string(file) else {
+        println!("not compared: no header beside the crate");
+        return;
+    };
+    for (name, row) in [("JR_ARC_ROW", ARC_ROW), ("JR_CURVE_ROW", CURVE_ROW)] {
+        assert!(header.contains(&format!(" {name} = {row},")), "{name}: {row} here");
     }
 }
 

@@ -4,8 +4,9 @@ use std::error::Error;
 use std::f64::consts::FRAC_PI_2;
 
 use juniperreef::{
-    ARC_ROW, Arc, Bounds, Cone, Curve, Development, Integrals, Meet, Path, ProfileArc, Refusal,
-    Revolution, Rolled, Trace, Vec2, Vec3, Wave, per_turn, revolution, segment, unit, wall,
+    ARC_ROW, Arc, Bounds, CURVE_ROW, Cone, Curve, Development, Integrals, Meet, Path, ProfileArc,
+    Refusal, Revolution, Rolled, Trace, Vec2, Vec3, Wave, per_turn, revolution, segment, unit,
+    wall,
 };
 
 const X: Vec3 = Vec3::new(1.0, 0.0, 0.0);
@@ -17,6 +18,12 @@ const FLAT: Wave = Wave { a: 0.0, b: 1.0, c: 0.0 };
 fn piece() -> Rolled {
     let dev = Development { origin: Vec3::ZERO, axis: Z, start: X, neutral: 10.0 };
     Rolled { dev, from: Vec2::new(0.0, 0.0), to: Vec2::new(8.0, 4.0), arc: None, trace: None }
+}
+
+/// Along the axis of a pipe whose neutral radius is 48.
+fn along(length: f64) -> Rolled {
+    let dev = Development { neutral: 48.0, ..piece().dev };
+    Rolled { dev, from: Vec2::new(0.0, 0.0), to: Vec2::new(0.0, length), ..piece() }
 }
 
 fn spoilt() -> Integrals {
@@ -80,6 +87,16 @@ fn refusal_6_row_too_short() {
     assert_eq!(curve.inner_points(X, X, 0.0, &mut row), Err(Refusal::RowTooShort));
     let points = curve.inner_points_vec(X, X, 0.0).unwrap();
     assert_eq!(points.len(), 2037);
+
+    // The most chords that a curve may have, and one number too few for their points.
+    let mut row = [7.0; CURVE_ROW];
+    let curve = Curve::Rolled { piece: along(19_301.0), radius: 48.0 };
+    let short = &mut row[..CURVE_ROW - 1];
+    assert_eq!(curve.inner_points(X, X, 0.0, short), Err(Refusal::RowTooShort));
+    assert_eq!(row, [7.0; CURVE_ROW]);
+    assert_eq!(curve.inner_points(X, X, 0.0, &mut row).map(|row| row.len()), Ok(CURVE_ROW));
+    assert_eq!(row[CURVE_ROW - 1], 19_301.0 * (4_095.0 / 4_096.0));
+    assert_eq!(curve.inner_points_vec(X, X, 0.0).map(|points| points.len()), Ok(4_095));
 }
 
 #[test]
@@ -121,6 +138,37 @@ fn refusal_10_count_too_large() {
     assert_eq!(FLAT.range(0.0, 1_000_000.0, 1.0), Err(Refusal::CountTooLarge));
     let w = Rolled { to: Vec2::new(1_000_000.0, 0.0), ..piece() };
     assert_eq!(w.quadrature_pieces(), Err(Refusal::CountTooLarge));
+
+    // 64 chords a turn: 4,096 of them, and one more.
+    assert_eq!(along(19_301.0).chords(48.0, 0.0), Ok(4_096));
+    assert_eq!(along(19_302.0).chords(48.0, 0.0), Err(Refusal::CountTooLarge));
+    let mut row = [7.0; CURVE_ROW];
+    let curve = Curve::Rolled { piece: along(19_302.0), radius: 48.0 };
+    assert_eq!(curve.inner_points(X, X, 0.0, &mut row), Err(Refusal::CountTooLarge));
+    assert_eq!(curve.inner_points(X, X, 0.0, &mut []), Err(Refusal::CountTooLarge));
+    assert_eq!(row, [7.0; CURVE_ROW]);
+
+    // A piece to integrate over for each 45 degrees: 48 pi/4 of length.
+    assert_eq!(along(154_404.0).quadrature_pieces(), Ok(4_096));
+    assert_eq!(along(154_416.0).quadrature_pieces(), Err(Refusal::CountTooLarge));
+    let mut sums = Integrals { area: 3.0, ..Integrals::default() };
+    let pipe = Cone { origin: Vec3::ZERO, axis: Z, radius: 48.0, slope: 0.0, convex: true };
+    let paths = |to| [Path::Rolled(along(to))];
+    assert_eq!(revolution(&mut sums, &pipe, paths(154_416.0), X), Err(Refusal::CountTooLarge));
+    assert_eq!(wall(&mut sums, &along(154_416.0), 48.0, 48.0, X), Err(Refusal::CountTooLarge));
+    assert_eq!(sums, Integrals { area: 3.0, ..Integrals::default() });
+    assert_eq!(revolution(&mut sums, &pipe, paths(154_404.0), X), Ok(()));
+    assert_eq!(wall(&mut sums, &along(154_404.0), 48.0, 48.0, X), Ok(()));
+
+    // A wave of one chord for each unit of 1.25 u.
+    let cut = |to| {
+        let dev = Development { neutral: 1.0, ..piece().dev };
+        let wave = Wave { a: 0.0, b: 0.75, c: 0.0 };
+        let (from, to) = (Vec2::new(0.0, 0.0), Vec2::new(to, 0.0));
+        Rolled { dev, from, to, arc: None, trace: Some(Trace::Wave(wave)) }
+    };
+    assert_eq!(cut(3276.75).polyline(0.09375), Ok(4_096));
+    assert_eq!(cut(3277.0).polyline(0.09375), Err(Refusal::CountTooLarge));
 }
 
 #[test]

@@ -10,7 +10,7 @@ use Rattle.order.specs.Least.{greatest}
 
 -- the most chords or pieces
 abbrev pub MOST : ℕ
-MOST = 65535
+MOST = 4096
 
 -- `x as usize`, or a refusal above the limit
 unfoldable pub limitedC : Float → ℕ → Checked ℕ

@@ -8,7 +8,7 @@ use order::greatest;
 use rounding::ceil;
 
 // The most chords or pieces.
-pub const MOST: u16 = 65535;
+pub const MOST: u16 = 4096;
 
 // A count, with the refusal that its computation met first; 0 is none.
 pub struct CheckedCount {

@@ -4,22 +4,25 @@
 use Prim.Native.Nat.{ℕ}
 use mathlib.Core.Path.{_≡_, refl}
 use mathlib.Core.List.{List, [], _∷_}
-use lib.Ieee.{Float}
+use lib.Ieee.{Float, le, lt, eq, round, ofInt, ofBits, toUnsigned}
 use Rattle.checked.specs.Refusals.{OUT-OF-RANGE, NEUTRAL-NOT-POSITIVE, ARC-AND-TRACE, BAD-BOX-OR-SUMS, BAD-TOLERANCE, ROW-TOO-SHORT, PIECE-ON-CONE, ANGLE-TOO-LARGE, NOT-FINITE, COUNT-TOO-LARGE, MALFORMED-FILE}
-use Rattle.checked.specs.Checked.{limit}
-use Rattle.checked.specs.Numbers.{literal, pi, tau, quarterPi}
+use Rattle.checked.specs.Checked.{first, given, isFinite, nine, limit}
+use Rattle.checked.specs.Numbers.{literal, float, one, pi, tau, quarterPi}
+use Rattle.rounding.specs.Whole.{ceil}
+use Rattle.order.specs.Least.{negative, greatest}
 use Rattle.libm.specs.Atan.{ATANHI1, ATANLO1, ATANHI3, ATANLO3}
 use Rattle.libm.specs.Atan2.{PI-LO}
 use Rattle.libm.specs.Acos.{PIO2-HI, PIO2-LO}
 use Rattle.libm.specs.RemPio2.{INV-PIO2, PIO2-1, PIO2-1T, PIO2-2, PIO2-2T, PIO2-3, PIO2-3T}
 use Rattle.chord_counts.specs.Chords.{fewest, most}
-use Rattle.chord_counts.specs.Counts.{MOST}
+use Rattle.chord_counts.specs.Counts.{MOST, limitedC, countC}
 use Rattle.waves.specs.TurningPoints.{TURNING-POINTS}
 use Rattle.integrals.specs.Gauss as gauss
 use Rattle.piece_boxes.specs.Brackets.{intervals, HALVINGS}
 use Rattle.piece_boxes.specs.MeetBoxes.{SAMPLES, WINDOWS}
 use Rattle.piece_lengths.specs.Measures.{CHORDS, PLACES, steps}
 use Rattle.piece_lengths.specs.Counts as counts
+use Rattle.curves.specs.Drawn.{CURVE-ROW}
 
 -- ---- refusals, in the order of their numbers
 abbrev pub refusals : List ℕ
@@ -47,8 +50,21 @@ limit-is : limit ≡ literal 0x4130_0000_0000_0000
 limit-is = refl
 
 -- of counts of chords and pieces, and of a wave's turning points
-most-is : MOST ∷ TURNING-POINTS ∷ [] ≡ 65535 ∷ 4096 ∷ []
+most-is : MOST ∷ TURNING-POINTS ∷ [] ≡ 4096 ∷ 4096 ∷ []
 most-is = refl
+
+-- a count of 4,096 is accepted, one of 4,097 is not
+accepted-is : countC (float 4096) one MOST ≡ given 4096
+unfolding countC limitedC first nine isFinite ceil greatest negative le lt eq ofInt ofBits round toUnsigned
+accepted-is = refl
+
+refused-is : countC (float 4097) one MOST .refusal ≡ 10
+unfolding countC limitedC first nine isFinite ceil greatest negative le lt eq ofInt ofBits round toUnsigned
+refused-is = refl
+
+-- three numbers for each of 4,095 points: the longest row that a curve can ask for
+row-is : CURVE-ROW ≡ 12285
+row-is = refl
 
 -- 12 and 64, of the chords of a full turn
 turn-is : fewest ∷ most ∷ [] ≡ literal 0x4028_0000_0000_0000 ∷ literal 0x4050_0000_0000_0000 ∷ []

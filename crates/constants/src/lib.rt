@@ -3,6 +3,7 @@
 ghost use mathlib.Core.Path.{_≡_};
 ghost use Rattle.vectors.specs.Vectors.{origin, along-x, along-y, along-z};
 ghost use Rattle.chord_counts.specs.Counts as Counts;
+ghost use Rattle.curves.specs.Drawn as Drawn;
 ghost use Rattle.constants.specs.Constants as Constants;
 use checked::ANGLE_TOO_LARGE;
 use checked::ARC_AND_TRACE;
@@ -19,6 +20,7 @@ use checked::PIECE_ON_CONE;
 use checked::ROW_TOO_SHORT;
 use checked::TAU;
 use chord_counts::counts;
+use curves::drawn::CURVE_ROW;
 use integrals::NODES;
 use integrals::WEIGHTS;
 use vectors::Vec3;
@@ -92,4 +94,11 @@ pub fn most() -> u16
     ensures { λ r. ⌜ r ≡ Counts.MOST ⌝ }
 {
     counts::MOST
+}
+
+// The longest row that a curve can ask for.
+pub fn curve_row() -> usize
+    ensures { λ r. ⌜ r ≡ Drawn.CURVE-ROW ⌝ }
+{
+    CURVE_ROW
 }

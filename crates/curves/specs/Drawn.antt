@@ -1,5 +1,5 @@
 -- What drawing a curve to a lent row is due to answer.
-use Prim.Native.Nat.{ℕ}
+use Prim.Native.Nat.{ℕ, _-_, _*_}
 use mathlib.Core.Bool.{_&&_}
 use mathlib.Core.List.{List}
 use lib.Ieee.{Float}
@@ -10,6 +10,7 @@ use Rattle.checked.specs.Tests.{fails, _or_, passing, chordTest}
 use Rattle.vectors.specs.declared.Vec3.{Vec3}
 use Rattle.vectors.specs.Vectors.{within3}
 use Rattle.arcs.specs.Entries as arcs
+use Rattle.chord_counts.specs.Counts.{MOST}
 use Rattle.piece_lengths.specs.Counts.{chordsC}
 use Rattle.pieces.specs.Pieces.{runC}
 use Rattle.pieces.specs.Entries as pieces
@@ -18,6 +19,11 @@ use Rattle.piece_rows.specs.Inner.{innersDue}
 use Rattle.curves.specs.declared.RolledAt.{RolledAt}
 use Rattle.curves.specs.declared.Curve.{Curve}
 use Rattle.curves.specs.declared.Curve.the-variants as curve
+
+-- the longest row that drawing a curve can ask for: three numbers for each point, one point fewer than chords
+-- (`row-suffices` of crates/curve_theorems)
+abbrev pub CURVE-ROW : ℕ
+CURVE-ROW = 3 * (MOST - 1)
 
 -- ---- a piece at a radius from its axis
 -- into how many chords it is cut

@@ -12,6 +12,7 @@ use checked::earlier;
 use checked::fails;
 use checked::is_within;
 use checked::tried_chord;
+use chord_counts::counts::MOST;
 use piece_curves::space_points::Rolling;
 use piece_lengths::counts::chords_of;
 use piece_rows::write_points;
@@ -19,6 +20,10 @@ use pieces::formula::run;
 use rows::Written;
 use vectors::Vec3;
 use vectors::is_within3;
+
+// The longest row that drawing a curve can ask for: three numbers for each point, one point fewer than
+// chords.
+pub const CURVE_ROW: usize = 3 * (MOST as usize - 1);
 
 // The number of the test of what is handed in that fails first, 0 for none.
 fn tried(w: RolledAt, from: Vec3, to: Vec3, chord: f64) -> u8

@@ -17,7 +17,7 @@ use std::num::wrapping_add_usize;
 // The longest row of most lines. The few longer ones are lent from an array that is filled for them alone.
 const ROW: usize = 900;
 
-// Room for the 65534 points that the longest curve has.
+// Far more than the longest curve asks for: how long a row is does not fit 16 bits.
 const LONG_ROW: usize = 200000;
 
 // The operation that draws an arc.
