@@ -3,7 +3,7 @@
 use Prim.Native.Nat.{ℕ, zero, suc, _+_, _*_, _/_, _-_, _^_, _≤_, _<_, min}
 use mathlib.Core.Path.{_≡_, refl, sym, _∙_, ap, subst}
 use mathlib.Core.Logic.{_⊎_, inl, inr}
-use mathlib.Core.Bool.{Bool, true, false, _&&_, _||_, true≢false}
+use mathlib.Core.Bool.{Bool, true, false, cond, _&&_, _||_, true≢false}
 use native.Mathlib.Omega.{arith}
 use native.Mathlib.Nat.{div-le-of-le-mul, min-le-left, mul-comm, one-mul, mul-one, mul-right-comm, le-of-mul-le-mul-right, mul-lt-mul-of-pos-right}
 use lib.Dec.{T, ltb, eqb, ltb→lt, lt→ltb, eqb→eq}
@@ -13,8 +13,13 @@ use lib.Ieee.Fits.{and-l, down-pos}
 use lib.Ieee.Exact.{HasValue}
 use lib.Ieee.Back.{round-whole}
 use borrow.Author.Tests.{ltb-false}
+use Rattle.checked.specs.Refusals.{COUNT-TOO-LARGE}
+use Rattle.checked.specs.Checked.{given}
 use Rattle.checked.specs.Numbers.{float}
+use Rattle.rounding.specs.Whole.{ceil}
 use Rattle.order.specs.Order.{or-cases}
+use Rattle.order.specs.Least.{greatest}
+use Rattle.chord_counts.specs.Counts.{limitedC, countC}
 
 not-below : (a b : ℕ) → 0 < a → ltb 0 (a + b) ≡ false → ⊥
 not-below a b A h = omega (arith, ltb-false 0 (a + b) h)
@@ -87,3 +92,16 @@ at-most x n N h = counted (float n) n (float-value n N) x h
 -- such a number is far below 2^64
 pub fits-u64 : (x : Float) (n : ℕ) → n ≤ 2 ^ 53 → T (le x (float n)) → T (lt x (fin false 1 (pos 64)))
 fits-u64 x n N h = below-2^64 (float n) n (float-value n N) (omega arith) x h
+
+-- ---- a count is at most its limit, whether or not it is refused
+limited-most : (x : Float) (limit : ℕ) → limit ≤ 2 ^ 53 → limitedC x limit .value ≤ limit
+unfolding limitedC
+limited-most x limit L = by (le x (float limit)) (λ h. at-most x limit L h)
+  where
+    by : (b : Bool) → (T b → toUnsigned 64 x ≤ limit) → cond b (given (toUnsigned 64 x)) (record { refusal = COUNT-TOO-LARGE; value = 0 }) .value ≤ limit
+    by true h = h tt
+    by false h = omega arith
+
+pub count-limited : (x least : Float) (limit : ℕ) → limit ≤ 2 ^ 53 → countC x least limit .value ≤ limit
+unfolding countC
+count-limited x least limit L = limited-most (greatest (ceil binary64 x) least) limit L

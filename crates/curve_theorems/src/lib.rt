@@ -1,0 +1,1 @@
+// Theorems only: what holds of curves for every input. See specs/.
