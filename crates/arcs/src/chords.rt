@@ -15,14 +15,14 @@ use vectors::Vec3;
 use vectors::formula::cross;
 
 // An arc's sweep, and into how many chords it is cut.
-#[derive(Drop)]
+#[derive(Clone, Copy)]
 pub struct Cut {
     pub turn: f64,
     pub chords: u16,
 }
 
 // A cut, with the refusal that its computation met first; 0 is none.
-#[derive(Drop)]
+#[derive(Clone, Copy)]
 pub struct CheckedCut {
     pub value: Cut,
     pub refusal: u8,

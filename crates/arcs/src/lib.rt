@@ -1,5 +1,6 @@
 // The arc of an edge: what a program may call. The formulas are in `sweep`, `points`,
 // `extremes` and `chords`, on the parts of an arc.
+#![tactic(auto)]
 ghost use Rattle.std.specs.Prelude.{◌≡◌, length};
 ghost use Rattle.checked.specs.Checked.{number_due, settled};
 ghost use Rattle.checked.specs.Answers.{number_of, Lent};
@@ -23,7 +24,7 @@ pub mod points;
 pub mod sweep;
 
 // An arc counterclockwise about `axis`, a unit vector, around `center`.
-#[derive(Drop)]
+#[derive(Clone, Copy)]
 pub struct Arc {
     pub center: Vec3,
     pub axis: Vec3,
@@ -31,14 +32,14 @@ pub struct Arc {
 }
 
 // An arc, with the refusal that its computation met first; 0 is none.
-#[derive(Drop)]
+#[derive(Clone, Copy)]
 pub struct CheckedArc {
     pub value: Arc,
     pub refusal: u8,
 }
 
 // The answer of an entry whose result is an arc.
-#[derive(Drop)]
+#[derive(Clone, Copy)]
 pub enum ArcAnswer {
     Value(Arc),
     Refused(u8),

@@ -1,4 +1,5 @@
 // Boxes of edges: their widening by points, and the answer of a box call.
+#![tactic(auto)]
 ghost use Rattle.std.specs.Prelude.{◌≡◌};
 ghost use Rattle.checked.specs.Checked.{settled};
 ghost use Rattle.boxes.specs.Boxes as Boxes;
@@ -7,28 +8,28 @@ use order::{greatest, least};
 use vectors::Vec3;
 
 // A box by its low and its high corner. Its numbers may be infinite.
-#[derive(Drop)]
+#[derive(Clone, Copy)]
 pub struct Bounds {
     pub low: Vec3,
     pub high: Vec3,
 }
 
 // A box, with the refusal that its computation met first; 0 is none.
-#[derive(Drop)]
+#[derive(Clone, Copy)]
 pub struct CheckedBounds {
     pub value: Bounds,
     pub refusal: u8,
 }
 
 // The answer of a box call.
-#[derive(Drop)]
+#[derive(Clone, Copy)]
 pub enum BoxAnswer {
     Box(Bounds),
     Refused(u8),
 }
 
 // What a call leaves of the box that was lent, and the number that it answers: 0 where the edge is accepted.
-#[derive(Drop)]
+#[derive(Clone, Copy)]
 pub struct BoxOutcome {
     pub bounds: Bounds,
     pub number: u8,

@@ -1,6 +1,6 @@
 -- Laws of refusals met in order, and of numbers that are not finite.
 use Rattle.std.specs.Prelude.{ℕ, zero, suc, ◌≡◌, refl, eqb, T, pos, Float}
-use Rattle.std.proofs.Common.{sym, ◌∙◌, ap, subst, arith}
+use Rattle.std.proofs.Common.{sym, subst, arith}
 use mathlib.Core.Bool.{Bool, true, false, cond, ◌&&◌, ◌||◌}
 use Rattle.std.specs.Float.{nan, inf, fin, Format, binary64}
 use Rattle.std.specs.Float.Ieee.{add, sub, mul, div, neg, le, of_bits}

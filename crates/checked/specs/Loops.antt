@@ -1,6 +1,6 @@
 -- Loops over computations that keep the refusal met first: a fixed number of steps, and steps until a test fails.
 use Rattle.std.specs.Prelude.{ℕ, zero, suc, Bool, cond}
-use Rattle.checked.specs.Checked.{Checked, first, ◌>>=◌, given}
+use Rattle.checked.specs.Checked.{Checked, ◌>>=◌, given}
 
 -- n steps one after the other, from what is reached at the start: a step gets its index, from 0 on, and what was reached
 unfoldable pub fold_c : {A : Type 0} → ℕ → (ℕ → A → Checked A) → A → Checked A

@@ -1,6 +1,6 @@
 -- One step more of a loop, and what is the same however a loop is cut. Assumes nothing.
 use Prim.Native.Nat.{ℕ, zero, suc, ◌+◌, ◌-◌}
-use Rattle.std.specs.Prelude.{◌≡◌, Bool, true, false, cond}
+use Rattle.std.specs.Prelude.{◌≡◌, Bool, true, false}
 use Rattle.std.proofs.Math.Path.{refl}
 use Rattle.std.proofs.Common.{sym, ◌∙◌, ap, add-one}
 use native.Mathlib.Omega.{arith}

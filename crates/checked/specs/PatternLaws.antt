@@ -1,6 +1,6 @@
 -- Which patterns are those of numbers. Assumes nothing.
 use Rattle.std.specs.Prelude.{◌≡◌, refl, Bool, true, false, not, ℕ, ◌-◌, ◌*◌, ◌/◌, ◌%◌, ◌^◌, ◌<◌, ◌≤◌, T, ltb, Float}
-use Rattle.std.proofs.Common.{sym, ap, ◌∙◌, subst, true≢false, arith, eq-eqb, lt-ltb, le-ltb, ltb-false}
+use Rattle.std.proofs.Common.{sym, ap, ◌∙◌, subst, arith, eq-eqb, lt-ltb, le-ltb, ltb-false}
 use Rattle.std.specs.Float.{nan, inf, fin, binary64}
 use Rattle.std.specs.Float.Ieee.{up, down, level, ne, eq, is_nan, to_bits, of_bits, nan_bits, fits}
 use Rattle.std.specs.Float.Ieee.Bits.{of_bits-to_bits, nan_bits_is, nan_bits_above}
@@ -30,21 +30,21 @@ pub own_no_nan : (x : Float) → ne x x ≡ false → T (not (is_nan x))
 own_no_nan x h = no (sym (ne_self x) ∙ h)
 
 -- the pattern of a NaN
-pub nan_bits : (x : Float) → ne x x ≡ true → 0x7ff8_0000_0000_0000 ≡ to_bits binary64 x
-nan_bits x h = sym (ap (to_bits binary64) (differs_from_itself x (yes h)) ∙ (unfold to_bits in refl))
+pub nan_bits_lem : (x : Float) → ne x x ≡ true → 0x7ff8_0000_0000_0000 ≡ to_bits binary64 x
+nan_bits_lem x h = sym (ap (to_bits binary64) (differs_from_itself x (yes h)) ∙ (unfold to_bits in refl))
 
 -- a pattern above the infinity's, its sign apart, is a NaN's; any other is a number's
 pub number_pattern : (b : ℕ) → b % 2 ^ 63 ≤ 0x7ff0_0000_0000_0000 → T (not (nan_bits binary64 b))
 number_pattern b h = no (nan_bits_above binary64 b ∙ le-ltb 0x7ff0_0000_0000_0000 (b % 2 ^ 63) h)
 
-is_nan : (x : Float) → T (is_nan x) → x ≡ nan
+is_nan_lem : (x : Float) → T (is_nan x) → x ≡ nan
 unfolding is_nan
-is_nan nan t = refl
-is_nan (inf s) t = absurd t
-is_nan (fin s m e) t = absurd t
+is_nan_lem nan t = refl
+is_nan_lem (inf s) t = absurd t
+is_nan_lem (fin s m e) t = absurd t
 
 pub nan_pattern : (b : ℕ) → 0x7ff0_0000_0000_0000 < b % 2 ^ 63 → nan ≡ of_bits binary64 b
-nan_pattern b h = sym (is_nan (of_bits binary64 b) (yes (sym (nan_bits_is binary64 b) ∙ (nan_bits_above binary64 b ∙ lt-ltb 0x7ff0_0000_0000_0000 (b % 2 ^ 63) h))))
+nan_pattern b h = sym (is_nan_lem (of_bits binary64 b) (yes (sym (nan_bits_is binary64 b) ∙ (nan_bits_above binary64 b ∙ lt-ltb 0x7ff0_0000_0000_0000 (b % 2 ^ 63) h))))
 
 -- ---- the pattern with its low word cleared
 pub upper_bits : (b : ℕ) → b - b % 2 ^ 32 ≡ b / 2 ^ 32 * 2 ^ 32

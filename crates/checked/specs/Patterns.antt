@@ -8,8 +8,8 @@ abbrev pub bits : Float → ℕ
 bits x = to_bits binary64 x
 
 -- the number of a pattern
-abbrev pub of_bits : ℕ → Float
-of_bits b = of_bits binary64 b
+abbrev pub of_pattern : ℕ → Float
+of_pattern b = of_bits binary64 b
 
 -- the high word of the pattern, without the sign
 abbrev pub high_word : Float → ℕ
@@ -17,4 +17,4 @@ high_word x = bits x / 2 ^ 32 % 2 ^ 31
 
 -- the number with the low word of its pattern cleared
 abbrev pub upper : Float → Float
-upper x = of_bits (bits x / 2 ^ 32 * 2 ^ 32)
+upper x = of_pattern (bits x / 2 ^ 32 * 2 ^ 32)

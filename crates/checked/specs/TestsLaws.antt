@@ -3,7 +3,7 @@ use Prim.Native.Nat.{ℕ, zero, suc}
 use Rattle.std.specs.Prelude.{◌≡◌, Bool, true, false, ◌&&◌}
 use Rattle.std.proofs.Math.Path.{refl}
 use Rattle.std.proofs.Common.{arith}
-use Rattle.checked.specs.Checked.{first, Due, due, refused, settled}
+use Rattle.checked.specs.Checked.{first, Due, due, refused}
 use Rattle.checked.specs.Tests.{fails, ◌or◌, passing}
 
 module _ {A : Type 0} (r : ℕ) (rest : Due A) where

@@ -1,4 +1,5 @@
 // Refusals by number, the tests that lead to them, and helpers on bit patterns that have a result for every f64.
+#![tactic(auto)]
 ghost use Rattle.std.specs.Prelude.{◌≡◌};
 ghost use Rattle.checked.specs.Checked.{is_finite, nine, first, within, settled, number_due};
 ghost use Rattle.checked.specs.Patterns as Patterns;
@@ -44,14 +45,14 @@ pub const COUNT_TOO_LARGE: u8 = 10;
 pub const MALFORMED_FILE: u8 = 11;
 
 // A number, with the refusal that its computation met first; 0 is none.
-#[derive(Drop)]
+#[derive(Clone, Copy)]
 pub struct CheckedNumber {
     pub value: f64,
     pub refusal: u8,
 }
 
 // The answer of an entry whose result is a number.
-#[derive(Drop)]
+#[derive(Clone, Copy)]
 pub enum NumberAnswer {
     Value(f64),
     Refused(u8),
@@ -148,7 +149,7 @@ pub fn bits(x: f64) -> u64
 
 // The number of a bit pattern.
 pub fn of_bits(b: u64) -> f64
-    ensures { result ≡ Patterns.«of_bits» b }
+    ensures { result ≡ Patterns.of_pattern b }
 {
     if b % 0x8000_0000_0000_0000 > 0x7ff0_0000_0000_0000 {
         0.0 / 0.0
@@ -159,7 +160,7 @@ pub fn of_bits(b: u64) -> f64
 
 // The high word of the pattern, without the sign.
 pub fn high_word(x: f64) -> u64
-    ensures { result ≡ Patterns.«high_word_lem» x }
+    ensures { result ≡ Patterns.high_word x }
 {
     bits(x) / 0x1_0000_0000 % 0x8000_0000
 }

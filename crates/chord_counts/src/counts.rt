@@ -10,7 +10,7 @@ use rounding::ceil;
 pub const MOST: u16 = 4096;
 
 // A count, with the refusal that its computation met first; 0 is none.
-#[derive(Drop)]
+#[derive(Clone, Copy)]
 pub struct CheckedCount {
     pub value: u16,
     pub refusal: u8,

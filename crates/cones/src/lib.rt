@@ -1,5 +1,6 @@
 // Cones, and coordinates across their axis. What a program may call is here, the bare formulas are
 // in `formula`.
+#![tactic(auto)]
 ghost use Rattle.std.specs.Prelude.{◌≡◌, ◌&&◌};
 ghost use Rattle.checked.specs.Checked.{number_due, settled};
 ghost use Rattle.vectors.specs.Vectors.{within3};
@@ -18,7 +19,7 @@ pub mod formula;
 // A circular cone: its axis through `origin` along the unit `axis`, `radius` at `origin`, and
 // `slope`, which the radius gains per unit along the axis. A cylinder is a cone of no slope. Where
 // it is `convex` the body lies inside.
-#[derive(Drop)]
+#[derive(Clone, Copy)]
 pub struct Cone {
     pub origin: Vec3,
     pub axis: Vec3,
@@ -28,7 +29,7 @@ pub struct Cone {
 }
 
 // Coordinates across the axis of a surface of revolution: `e1` and `e2`, which is axis × e1.
-#[derive(Drop)]
+#[derive(Clone, Copy)]
 pub struct Frame {
     pub axis: Vec3,
     pub origin: Vec3,
@@ -37,14 +38,14 @@ pub struct Frame {
 }
 
 // A frame, with the refusal that its computation met first; 0 is none.
-#[derive(Drop)]
+#[derive(Clone, Copy)]
 pub struct CheckedFrame {
     pub value: Frame,
     pub refusal: u8,
 }
 
 // The answer of an entry whose result is a frame.
-#[derive(Drop)]
+#[derive(Clone, Copy)]
 pub enum FrameAnswer {
     Value(Frame),
     Refused(u8),

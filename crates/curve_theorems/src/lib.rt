@@ -1,1 +1,3 @@
 // Theorems only: what holds of curves for every input. See specs/.
+
+#![tactic(auto)]

@@ -34,7 +34,7 @@ fn tried(w: RolledAt, from: Vec3, to: Vec3, chord: f64) -> u8
 
 // A piece ready to be drawn, and into how many chords it is cut, with the refusal that was met
 // first; 0 is none.
-#[derive(Drop)]
+#[derive(Clone, Copy)]
 pub struct PieceCut {
     pub piece: Rolling,
     pub chords: u16,

@@ -1,4 +1,5 @@
 // A curve in space: what a program may call is here, the formulas that choose between arc and piece in `formula`.
+#![tactic(auto)]
 ghost use Rattle.std.specs.Prelude.{◌≡◌};
 ghost use Rattle.checked.specs.Checked.{settled};
 ghost use Rattle.checked.specs.Answers.{Lent};
@@ -19,34 +20,34 @@ pub mod formula;
 pub mod parts;
 
 // A piece of a development at `radius` from its axis.
-#[derive(Drop)]
+#[derive(Clone, Copy)]
 pub struct RolledAt {
     pub piece: Rolled,
     pub radius: f64,
 }
 
-#[derive(Drop)]
+#[derive(Clone, Copy)]
 pub enum Curve {
     Arc(Arc),
     Rolled(RolledAt),
 }
 
 // A curve, with the refusal that its computation met first; 0 is none.
-#[derive(Drop)]
+#[derive(Clone, Copy)]
 pub struct CheckedCurve {
     pub value: Curve,
     pub refusal: u8,
 }
 
 // The answer of an entry whose result is a curve.
-#[derive(Drop)]
+#[derive(Clone, Copy)]
 pub enum CurveAnswer {
     Value(Curve),
     Refused(u8),
 }
 
 // The answer of `arc`: nothing for a piece.
-#[derive(Drop)]
+#[derive(Clone, Copy)]
 pub enum CurveArcAnswer {
     Value(Arc),
     Nothing,

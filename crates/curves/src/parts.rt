@@ -14,7 +14,7 @@ use pieces::Rolled;
 use pieces::formula::run;
 
 // A piece, with the refusal that its computation met first; 0 is none.
-#[derive(Drop)]
+#[derive(Clone, Copy)]
 pub struct CheckedPiece {
     pub value: Rolled,
     pub refusal: u8,

@@ -1,4 +1,5 @@
 // Numbers as the shops read them: whole thousandths, and decimal digits.
+#![tactic(auto)]
 ghost use Rattle.std.specs.Prelude.{◌≡◌, Bool, ◌/◌, ◌%◌, ◌^◌, ◌<◌, length, drop};
 ghost use Rattle.std.specs.Float.{binary64};
 ghost use Rattle.std.specs.Float.Ieee.{of_fields};
@@ -9,7 +10,7 @@ ghost use Rattle.decimals.specs.Digits as Digits;
 const MOST: u64 = 1_000_000_000;
 
 // A whole number as a sign and a size, with the refusal of one that is too large; 0 is none.
-#[derive(Drop)]
+#[derive(Clone, Copy)]
 pub struct CheckedWhole {
     pub refusal: u8,
     pub is_negative: bool,

@@ -11,13 +11,13 @@ use vectors::formula::{cross, dot, minus, noted, plus, times};
 use vectors::{CheckedVec3, Vec2, Vec3};
 
 // A point in the development, and its distance from the axis.
-#[derive(Drop)]
+#[derive(Clone, Copy)]
 pub struct Unrolled {
     pub p: Vec2,
     pub r: f64,
 }
 
-#[derive(Drop)]
+#[derive(Clone, Copy)]
 pub struct CheckedUnrolled {
     pub value: Unrolled,
     pub refusal: u8,

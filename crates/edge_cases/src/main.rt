@@ -11,6 +11,7 @@
 //     l  in the length that the first record announces
 //     p  in which number of the first record, counted from 1, has the pattern of the last eight
 //        bytes, which do not belong to the file
+#![tactic(auto)]
 ghost use Rattle.std.specs.Prelude.{◌≤◌, ◌<◌, length};
 
 use edge_file::Reading;
@@ -19,14 +20,14 @@ use edge_file::Reading;
 const ROOM: usize = 220;
 
 // The bytes of a file stand at the start of the array.
-#[derive(Drop)]
+#[derive(Clone, Copy)]
 struct File {
     bytes: [u8; 220],
     size: usize,
 }
 
 // What is printed of a file stands at the end of the array.
-#[derive(Drop)]
+#[derive(Clone, Copy)]
 struct Line {
     text: [u8; 160],
     at: usize,

@@ -1,4 +1,5 @@
 // Reading an edge file: the records one after the other, and the line at the end.
+#![tactic(auto)]
 ghost use Rattle.std.specs.Prelude.{◌≡◌, [], ◌≤◌, length, drop};
 ghost use Rattle.edge_records.specs.Records.{record_of};
 ghost use Rattle.edge_file.specs.EdgeFile.{next, call_of};
@@ -9,14 +10,14 @@ use checked::MALFORMED_FILE;
 use edge_records::{Edge, Record};
 
 // Whether there was an edge, and the box of the edges so far.
-#[derive(Drop)]
+#[derive(Clone, Copy)]
 pub struct Seen {
     pub has_edge: bool,
     pub bounds: Bounds,
 }
 
 // Whether records are still to come, the end record was there, or a refusal ended the reading.
-#[derive(Drop)]
+#[derive(Clone, Copy)]
 pub enum Status {
     Open,
     Ended,
@@ -25,7 +26,7 @@ pub enum Status {
 
 // A file that is being read. The number is that of the record that comes next, or of the one at
 // which the reading ended.
-#[derive(Drop)]
+#[derive(Clone, Copy)]
 pub struct Reading {
     pub seen: Seen,
     pub number: u64,
@@ -33,7 +34,7 @@ pub struct Reading {
 }
 
 // A reading after some bytes, and how many of them it took.
-#[derive(Drop)]
+#[derive(Clone, Copy)]
 pub struct Taken {
     pub reading: Reading,
     pub used: usize,

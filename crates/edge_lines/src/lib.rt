@@ -1,4 +1,5 @@
 // The line that the program prints, put together from its end: each part is put before what stands already.
+#![tactic(auto)]
 ghost use Rattle.std.specs.Prelude.{◌≡◌, ◌++◌, ◌+◌, ◌≤◌, length, drop};
 ghost use Rattle.checked.specs.Checked.{due, settled};
 ghost use Rattle.decimals.specs.Digits.{digits, numeral};
@@ -12,7 +13,7 @@ use vectors::Vec3;
 pub const ROOM: usize = 160;
 
 // What stands of a line, from `at` to the end of the buffer, with the refusal of a number in it; 0 is none.
-#[derive(Drop)]
+#[derive(Clone, Copy)]
 struct Tail {
     refusal: u8,
     at: usize,

@@ -4,7 +4,7 @@ use Rattle.std.specs.Prelude.{◌≡◌, refl, Bool, true, false, cond, List, []
 use Rattle.std.proofs.Common.{sym, ap, ◌∙◌, subst, arith, length-append, length-drop, take-append-drop, length-take-le}
 use Rattle.std.proofs.lemmas.List.{take-append-le, drop-append-le}
 use borrow.Author.Tests.{le-ltb, ltb-false}
-use Rattle.checked.specs.Patterns.{of_bits}
+use Rattle.checked.specs.Patterns.{of_pattern}
 use Rattle.edge_records.specs.Records.{low_first, number_at, point_at, tagged, length_of, head_of, kind_of, edge_of, of_kind, record_of, size_of_kind, size_of, shortest, longest}
 use Rattle.edge_records.specs.declared.Kind.{Kind}
 use Rattle.edge_records.specs.declared.Kind.TheVariants as kind
@@ -79,7 +79,7 @@ eight i l rest h =
 
 number_local : (i : ℕ) (l rest : List ℕ) → i + 8 ≤ length l → number_at i (l ++ rest) ≡ number_at i l
 unfolding number_at
-number_local i l rest h = ap (λ (m : List ℕ). of_bits (low_first m)) (eight i l rest h)
+number_local i l rest h = ap (λ (m : List ℕ). of_pattern (low_first m)) (eight i l rest h)
 
 point_local : (i : ℕ) (l rest : List ℕ) → i + 24 ≤ length l → point_at i (l ++ rest) ≡ point_at i l
 unfolding point_at

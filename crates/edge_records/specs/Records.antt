@@ -1,7 +1,7 @@
 -- The records of an edge file. A record is a tag byte, a length of two bytes, low byte first, and
 -- as many bytes as the length says.
 use Rattle.std.specs.Prelude.{ℕ, ◌+◌, ◌*◌, cond, ◌&&◌, List, [], ◌∷◌, ltb, eqb, Float, length, take, drop}
-use Rattle.checked.specs.Patterns.{of_bits}
+use Rattle.checked.specs.Patterns.{of_pattern}
 use Rattle.vectors.specs.declared.Vec3.{Vec3}
 use Rattle.vectors.specs.Vectors.{space}
 use Rattle.edge_records.specs.declared.Edge.{Edge}
@@ -18,7 +18,7 @@ low_first (b ∷ bs) = b + 256 * low_first bs
 
 -- the f64 whose bits stand from byte i on, and the point of three
 unfoldable pub number_at : ℕ → List ℕ → Float
-number_at i bytes = of_bits (low_first (take 8 (drop i bytes)))
+number_at i bytes = of_pattern (low_first (take 8 (drop i bytes)))
 
 unfoldable pub point_at : ℕ → List ℕ → Vec3
 point_at i bytes = space (number_at i bytes) (number_at (i + 8) bytes) (number_at (i + 16) bytes)

@@ -1,4 +1,5 @@
 // The records of an edge file: what their heads say, and the numbers in their bodies.
+#![tactic(auto)]
 ghost use Rattle.std.specs.Prelude.{◌≡◌, [], ◌∷◌, ◌+◌, ◌*◌, ◌≤◌, length};
 ghost use Rattle.edge_records.specs.Records.{low_first, number_at, point_at, tagged, length_of, head_of, kind_of, edge_of, record_of, size_of_kind, size_of};
 
@@ -13,7 +14,7 @@ pub const HEAD: usize = 3;
 pub const ARC: usize = HEAD + 104;
 
 // An arc with its two ends.
-#[derive(Drop)]
+#[derive(Clone, Copy)]
 pub struct Edge {
     pub arc: Arc,
     pub from: Vec3,
@@ -21,7 +22,7 @@ pub struct Edge {
 }
 
 // What the bytes of a file begin with; malformed where no record stands whole there.
-#[derive(Drop)]
+#[derive(Clone, Copy)]
 pub enum Record {
     Edge(Edge),
     End,
@@ -29,7 +30,7 @@ pub enum Record {
 }
 
 // What the head of the first record announces; short where it or what it announces is cut.
-#[derive(Drop)]
+#[derive(Clone, Copy)]
 enum Kind {
     Arc,
     End,

@@ -1,5 +1,6 @@
 // Reads an edge file from standard input, and prints its line: the box of its edges, or why there
 // is none.
+#![tactic(auto)]
 ghost use Rattle.std.specs.Prelude.{◌≡◌, length};
 ghost use Rattle.edge_records.specs.Records.{shortest};
 ghost use Rattle.edgebox.specs.Input.{Took, is_due, HasRead};
@@ -9,7 +10,7 @@ use edge_records::ARC;
 use libc::{STDIN_FILENO, STDOUT_FILENO};
 
 // A reading after one read, and whether another one is due.
-#[derive(Drop)]
+#[derive(Clone, Copy)]
 struct Turn {
     reading: Reading,
     is_due: bool,

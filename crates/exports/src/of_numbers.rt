@@ -32,7 +32,7 @@ pub extern "C" fn jr_ceil(x: f64) -> f64
 // The whole number nearest to x, halves away from 0.
 #[unsafe(no_mangle)]
 pub extern "C" fn jr_round(x: f64) -> f64
-    ensures { result ≡ Whole.«round_away» binary64 x }
+    ensures { result ≡ Whole.round_away binary64 x }
 {
     rounding::round(x)
 }

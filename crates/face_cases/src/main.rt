@@ -1,6 +1,7 @@
 // Faces of bodies whose volume, area and centre a closed formula gives: each line has the number due
 // and the number found, by their bit patterns, and whether they are within 1e-12 of each other, in
 // parts of the number due, or of the body's size where that is 0.
+#![tactic(auto)]
 use arcs::Arc;
 use checked::PI;
 use cones::Cone;

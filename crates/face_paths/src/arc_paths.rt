@@ -16,7 +16,7 @@ use vectors::formula::{dot, minus};
 
 // An arc about the axis of a surface: the angle where it starts and the one that it turns, its
 // place along the axis, and into how many panels of at most 45° it is cut for the integrals.
-#[derive(Drop)]
+#[derive(Clone, Copy)]
 pub struct ArcPath {
     pub start: f64,
     pub turn: f64,
@@ -25,7 +25,7 @@ pub struct ArcPath {
 }
 
 // A course, with the refusal that its computation met first; 0 is none.
-#[derive(Drop)]
+#[derive(Clone, Copy)]
 pub struct CheckedArcPath {
     pub value: ArcPath,
     pub refusal: u8,

@@ -1,5 +1,6 @@
 // The running sums of a face after a path, an arc or a piece of a development: the loops over its
 // panels and their nodes. Numbers may be of any size.
+#![tactic(auto)]
 ghost use Rattle.std.specs.Prelude.{◌≡◌};
 ghost use Rattle.checked.specs.Checked.{first};
 ghost use Rattle.integrals.specs.Gauss.{panel_at_c};
@@ -23,7 +24,7 @@ pub mod piece_paths;
 pub mod piece_rates;
 
 // A path as the loops run along it.
-#[derive(Drop)]
+#[derive(Clone, Copy)]
 pub enum FacePath {
     Arc(ArcPath),
     Piece(PiecePath),

@@ -14,7 +14,7 @@ use vectors::formula::{dot, minus};
 
 // A piece on a cylinder: the angle where its development starts, which way its u turns, and where
 // its development's origin lies along the axis.
-#[derive(Drop)]
+#[derive(Clone, Copy)]
 pub struct PiecePath {
     pub run: PieceCurve,
     pub start: f64,
@@ -23,7 +23,7 @@ pub struct PiecePath {
 }
 
 // A drift, with the refusal that its computation met first; 0 is none.
-#[derive(Drop)]
+#[derive(Clone, Copy)]
 pub struct CheckedPiecePath {
     pub value: PiecePath,
     pub refusal: u8,

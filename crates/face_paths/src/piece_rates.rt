@@ -11,14 +11,14 @@ use profile_arcs::ProfileArc;
 use vectors::Vec2;
 use waves::{Wave, values};
 
-#[derive(Drop)]
+#[derive(Clone, Copy)]
 pub struct PieceRate {
     pub u: f64,
     pub v: f64,
     pub du: f64,
 }
 
-#[derive(Drop)]
+#[derive(Clone, Copy)]
 pub struct CheckedPieceRate {
     pub value: PieceRate,
     pub refusal: u8,

@@ -3,6 +3,7 @@
 // number ahead is lost since its arctangent rounds to 0. Then a million arcs between drawn
 // points, half of them a few bits apart: each is a full circle exactly where its arctangent lies in
 // [-2^-51, 0], as crates/arc_theorems proves.
+#![tactic(auto)]
 use arcs::Arc;
 use checked::{NumberAnswer, TAU};
 use libm::atan2;

@@ -17,7 +17,7 @@ use vectors::formula::{dot, minus, noted, plus, times};
 // A surface of revolution as the integrands read it: `p0` is where its origin lies from the point
 // that volumes are measured from, and `stretch` the length of a step along the surface over one
 // along the axis.
-#[derive(Drop)]
+#[derive(Clone, Copy)]
 pub struct Revolved {
     pub frame: Frame,
     pub p0: Vec3,
@@ -27,28 +27,28 @@ pub struct Revolved {
 }
 
 // A surface, with the refusal that its computation met first; 0 is none.
-#[derive(Drop)]
+#[derive(Clone, Copy)]
 pub struct CheckedRevolved {
     pub value: Revolved,
     pub refusal: u8,
 }
 
 // The direction away from the axis at an angle, and the normal there, not of length 1.
-#[derive(Drop)]
+#[derive(Clone, Copy)]
 pub struct RadialNormal {
     pub out: Vec3,
     pub normal: Vec3,
 }
 
 // A bearing, with the refusal of its angle; that of its vectors is for the caller to note.
-#[derive(Drop)]
+#[derive(Clone, Copy)]
 pub struct CheckedRadialNormal {
     pub value: RadialNormal,
     pub refusal: u8,
 }
 
 // Where a path is: its angle, its place along the axis, and how fast the angle turns.
-#[derive(Drop)]
+#[derive(Clone, Copy)]
 pub struct PathPoint {
     pub theta: f64,
     pub z: f64,
@@ -56,7 +56,7 @@ pub struct PathPoint {
 }
 
 // A place, with the refusal that its computation met first; 0 is none.
-#[derive(Drop)]
+#[derive(Clone, Copy)]
 pub struct CheckedPathPoint {
     pub value: PathPoint,
     pub refusal: u8,

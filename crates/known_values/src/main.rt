@@ -1,12 +1,13 @@
 // Runs the well-known values of data/values.txt: each result may be one step from the f64 nearest
 // to the true value. A line whose result is farther off is named.
+#![tactic(auto)]
 use answer_lines::{operation, pattern};
 use bytes::scan::find;
 use libm::{atan2, roots, sincos};
 use std::num::{wrapping_add_u32, wrapping_add_u64};
 
 // Where the next line begins, the number of the one before it, and how many lines came out how.
-#[derive(Drop)]
+#[derive(Clone, Copy)]
 struct Progress {
     is_over: bool,
     at: u32,

@@ -46,7 +46,7 @@ const AT9: f64 = -3.65315727442169155270e-02;
 const AT10: f64 = 1.62858201153657823623e-02;
 
 // An argument of the series, and the arctangent that it is away from, in two parts.
-#[derive(Drop)]
+#[derive(Clone, Copy)]
 pub struct Reduced {
     pub x: f64,
     pub high: f64,

@@ -14,7 +14,7 @@ const UP: f64 = 5.260135901548374e+210;
 const DOWN: f64 = 1.90109156629516e-211;
 
 // A square in two parts.
-#[derive(Drop)]
+#[derive(Clone, Copy)]
 pub struct Square {
     pub hi: f64,
     pub lo: f64,

@@ -25,7 +25,7 @@ const PIO2_3T: f64 = 8.47842766036889956997e-32;
 
 // What is left of an angle after whole quarter turns, in two parts, and the two lowest bits of
 // their number.
-#[derive(Drop)]
+#[derive(Clone, Copy)]
 pub struct Rest {
     pub quarter: u64,
     pub y0: f64,

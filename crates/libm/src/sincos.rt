@@ -9,7 +9,7 @@ use crate::rem_pio2::{Rest, rem_pio2};
 use checked::{ANGLE_TOO_LARGE, CheckedNumber, earlier, high_word, is_within, note};
 use float_bits::choose;
 
-#[derive(Drop)]
+#[derive(Clone, Copy)]
 pub struct Sines {
     pub sin: f64,
     pub cos: f64,
@@ -18,7 +18,7 @@ pub struct Sines {
 // A sine and a cosine, with the refusal that their angle met; 0 is none. It stands between them so
 // that the two are read one by one, as they are stored: a pair read at once would wait until both
 // have left for memory.
-#[derive(Drop)]
+#[derive(Clone, Copy)]
 pub struct CheckedSines {
     pub sin: f64,
     pub refusal: u8,

@@ -13,7 +13,7 @@ use vectors::Vec3;
 use vectors::formula::{dot, minus, noted, plus, times};
 
 // The first derivatives: of the point of the pipe, of that across the axis of the cylinder met, of b, and of t.
-#[derive(Drop)]
+#[derive(Clone, Copy)]
 pub struct FirstDerivatives {
     pub d1: Vec3,
     pub w1: Vec3,
@@ -21,34 +21,34 @@ pub struct FirstDerivatives {
     pub t1: f64,
 }
 
-#[derive(Drop)]
+#[derive(Clone, Copy)]
 pub struct CheckedFirstDerivatives {
     pub value: FirstDerivatives,
     pub refusal: u8,
 }
 
 // The second derivatives, of the point of the pipe and of t.
-#[derive(Drop)]
+#[derive(Clone, Copy)]
 pub struct SecondDerivatives {
     pub d2: Vec3,
     pub t2: f64,
 }
 
-#[derive(Drop)]
+#[derive(Clone, Copy)]
 pub struct CheckedSecondDerivatives {
     pub value: SecondDerivatives,
     pub refusal: u8,
 }
 
 // A point, its first and its second derivative.
-#[derive(Drop)]
+#[derive(Clone, Copy)]
 pub struct Jet {
     pub q: Vec3,
     pub q1: Vec3,
     pub q2: Vec3,
 }
 
-#[derive(Drop)]
+#[derive(Clone, Copy)]
 pub struct CheckedJet {
     pub value: Jet,
     pub refusal: u8,

@@ -11,7 +11,7 @@ use vectors::formula::{cross, dot, minus, noted, plus, times};
 
 // The pipe: a point of its axis, the axis, where the angle starts and a quarter turn on, its radius; then the cylinder met: a point of its
 // axis, the axis, its radius.
-#[derive(Drop)]
+#[derive(Clone, Copy)]
 pub struct Pipe {
     pub o: Vec3,
     pub a: Vec3,
@@ -23,14 +23,14 @@ pub struct Pipe {
     pub mr: f64,
 }
 
-#[derive(Drop)]
+#[derive(Clone, Copy)]
 pub struct CheckedPipe {
     pub value: Pipe,
     pub refusal: u8,
 }
 
 // |w + t·a|² = R², all across the axis of the cylinder met: aa·t² + 2b·t + cc = 0, and the root of b² − aa·cc.
-#[derive(Drop)]
+#[derive(Clone, Copy)]
 pub struct Quadratic {
     pub aa: f64,
     pub b: f64,
@@ -40,7 +40,7 @@ pub struct Quadratic {
 
 // The generatrix at an angle: the angle's sine and cosine, the direction from the axis, the point of the pipe there; from the axis of the
 // cylinder met to that point, and the pipe's axis, both across; the quadratic's first factor and root, and where it is solved.
-#[derive(Drop)]
+#[derive(Clone, Copy)]
 pub struct Intersection {
     pub s: f64,
     pub c: f64,
@@ -53,7 +53,7 @@ pub struct Intersection {
     pub t: f64,
 }
 
-#[derive(Drop)]
+#[derive(Clone, Copy)]
 pub struct CheckedIntersection {
     pub value: Intersection,
     pub refusal: u8,

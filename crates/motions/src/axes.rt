@@ -8,14 +8,14 @@ use vectors::Vec3;
 use vectors::formula::noted;
 
 // A line through a point.
-#[derive(Drop)]
+#[derive(Clone, Copy)]
 pub struct Axis {
     pub origin: Vec3,
     pub along: Vec3,
 }
 
 // An axis, with the refusal that its computation met first; 0 is none.
-#[derive(Drop)]
+#[derive(Clone, Copy)]
 pub struct CheckedAxis {
     pub value: Axis,
     pub refusal: u8,

@@ -1,4 +1,5 @@
 // Rigid motions. What a program may call is here, the formulas are in `formula`.
+#![tactic(auto)]
 ghost use Rattle.std.specs.Prelude.{◌≡◌, ◌&&◌};
 ghost use Rattle.checked.specs.Checked.{within, settled};
 ghost use Rattle.vectors.specs.Vectors.{within3};
@@ -12,7 +13,7 @@ pub mod axes;
 pub mod formula;
 
 // The rows of a rotation, by the coordinate that each one gives.
-#[derive(Drop)]
+#[derive(Clone, Copy)]
 pub struct Rows {
     pub x: Vec3,
     pub y: Vec3,
@@ -20,21 +21,21 @@ pub struct Rows {
 }
 
 // A rigid motion: a rotation, then a shift.
-#[derive(Drop)]
+#[derive(Clone, Copy)]
 pub struct Rigid {
     pub rot: Rows,
     pub shift: Vec3,
 }
 
 // A motion, with the refusal that its computation met first; 0 is none.
-#[derive(Drop)]
+#[derive(Clone, Copy)]
 pub struct CheckedRigid {
     pub value: Rigid,
     pub refusal: u8,
 }
 
 // The answer of an entry whose result is a motion.
-#[derive(Drop)]
+#[derive(Clone, Copy)]
 pub enum RigidAnswer {
     Value(Rigid),
     Refused(u8),

@@ -10,26 +10,26 @@ use piece_curves::meet_curves::{CheckedVec2, MeetCurve, MeetRates, motion, point
 use vectors::Vec2;
 
 // Where the derivative changes sign.
-#[derive(Drop)]
+#[derive(Clone, Copy)]
 pub struct Bracket {
     pub lo: f64,
     pub hi: f64,
 }
 
-#[derive(Drop)]
+#[derive(Clone, Copy)]
 pub struct CheckedBracket {
     pub value: Bracket,
     pub refusal: u8,
 }
 
 // From least to greatest u and v.
-#[derive(Drop)]
+#[derive(Clone, Copy)]
 pub struct FlatBox {
     pub low: Vec2,
     pub high: Vec2,
 }
 
-#[derive(Drop)]
+#[derive(Clone, Copy)]
 pub struct CheckedBox {
     pub value: FlatBox,
     pub refusal: u8,

@@ -14,7 +14,7 @@ use piece_curves::meet_curves::{CheckedVec2, MeetCurve, MeetRates, motion, point
 use vectors::Vec2;
 
 // The derivatives at 65 places, and the box of the two ends.
-#[derive(Drop)]
+#[derive(Clone, Copy)]
 struct Samples {
     u: [f64; 65],
     v: [f64; 65],

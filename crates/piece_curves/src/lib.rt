@@ -1,5 +1,6 @@
 // What a piece of a development follows, from its first end to its last, ready to be followed: of a
 // meet the pipe is worked out once.
+#![tactic(auto)]
 ghost use Rattle.std.specs.Prelude.{◌≡◌};
 ghost use Rattle.piece_curves.specs.PieceCurves.{meet_kind_c, traced_c, untraced, kind_c, curve_c};
 
@@ -16,20 +17,20 @@ pub mod points;
 pub mod space_points;
 
 // The arc of a piece, where it has one.
-#[derive(Drop)]
+#[derive(Clone, Copy)]
 pub enum PieceArc {
     Without,
     With(ProfileArc),
 }
 
 // The trace of a piece, where it has one.
-#[derive(Drop)]
+#[derive(Clone, Copy)]
 pub enum PieceTrace {
     Without,
     With(Trace),
 }
 
-#[derive(Drop)]
+#[derive(Clone, Copy)]
 pub enum CurveKind {
     Straight,
     Arc(ProfileArc),
@@ -37,14 +38,14 @@ pub enum CurveKind {
     Meet(MeetCurve),
 }
 
-#[derive(Drop)]
+#[derive(Clone, Copy)]
 pub struct CheckedCurveKind {
     pub value: CurveKind,
     pub refusal: u8,
 }
 
 // A piece in its development: its ends, the neutral radius, and what it follows between them.
-#[derive(Drop)]
+#[derive(Clone, Copy)]
 pub struct PieceCurve {
     pub from: Vec2,
     pub to: Vec2,
@@ -52,7 +53,7 @@ pub struct PieceCurve {
     pub way: CurveKind,
 }
 
-#[derive(Drop)]
+#[derive(Clone, Copy)]
 pub struct CheckedPieceCurve {
     pub value: PieceCurve,
     pub refusal: u8,

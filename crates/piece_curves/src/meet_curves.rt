@@ -18,7 +18,7 @@ use vectors::{Vec2, Vec3};
 
 // The piece's first and last u, the neutral radius, the angles of a hole, and the pipe, worked out
 // once.
-#[derive(Drop)]
+#[derive(Clone, Copy)]
 pub struct MeetCurve {
     pub from: f64,
     pub to: f64,
@@ -29,7 +29,7 @@ pub struct MeetCurve {
 
 // How fast u and v run, and the point in space, each with the refusal met on the way to it; that of
 // the point is up to the cylinder met, and its numbers are for the caller to note.
-#[derive(Drop)]
+#[derive(Clone, Copy)]
 pub struct MeetRates {
     pub u: f64,
     pub ru: u8,
@@ -39,20 +39,20 @@ pub struct MeetRates {
     pub rq: u8,
 }
 
-#[derive(Drop)]
+#[derive(Clone, Copy)]
 pub struct CheckedVec2 {
     pub value: Vec2,
     pub refusal: u8,
 }
 
 // A point of a piece, and its derivative.
-#[derive(Drop)]
+#[derive(Clone, Copy)]
 pub struct Place {
     pub p: Vec2,
     pub d: Vec2,
 }
 
-#[derive(Drop)]
+#[derive(Clone, Copy)]
 pub struct CheckedPlace {
     pub value: Place,
     pub refusal: u8,

@@ -12,14 +12,14 @@ use vectors::Vec2;
 use waves::{Wave, values};
 
 // The whole turn of an arc, and from its centre to the point at t.
-#[derive(Drop)]
+#[derive(Clone, Copy)]
 pub struct Swung {
     pub phi: f64,
     pub x: f64,
     pub y: f64,
 }
 
-#[derive(Drop)]
+#[derive(Clone, Copy)]
 pub struct CheckedSwung {
     pub value: Swung,
     pub refusal: u8,

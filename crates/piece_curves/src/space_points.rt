@@ -13,7 +13,7 @@ use waves::{Wave, values};
 
 // A piece at `radius` from the axis of its development: the sheet lies around the axis through
 // `origin` along `axis`, and `start`, across the axis, is where u is 0.
-#[derive(Drop)]
+#[derive(Clone, Copy)]
 pub struct Rolling {
     pub origin: Vec3,
     pub axis: Vec3,

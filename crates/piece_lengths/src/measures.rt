@@ -17,14 +17,14 @@ use vectors::Vec2;
 use waves::Wave;
 
 // The radius is 0 but for an arc.
-#[derive(Drop)]
+#[derive(Clone, Copy)]
 pub struct Measure {
     pub radius: f64,
     pub turn: f64,
     pub length: f64,
 }
 
-#[derive(Drop)]
+#[derive(Clone, Copy)]
 pub struct CheckedMeasure {
     pub value: Measure,
     pub refusal: u8,

@@ -19,7 +19,7 @@ use vectors::{Vec2, Vec3};
 use waves::{Wave, values};
 
 // The second derivatives of u along a hole, and of v, each with its refusal.
-#[derive(Drop)]
+#[derive(Clone, Copy)]
 struct MeetSeconds {
     u: f64,
     ru: u8,
@@ -29,7 +29,7 @@ struct MeetSeconds {
 
 // x and y of a point, of its first and its second derivative, and the z of that, each with its
 // refusal.
-#[derive(Drop)]
+#[derive(Clone, Copy)]
 struct Levelled {
     q0: Vec2,
     r0: u8,

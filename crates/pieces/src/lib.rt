@@ -1,4 +1,5 @@
 // A piece of a development: what a program may call is here, what others build on is in `formula`.
+#![tactic(auto)]
 ghost use Rattle.std.specs.Prelude.{◌≡◌};
 ghost use Rattle.checked.specs.Checked.{first, settled};
 ghost use Rattle.pieces.specs.Entries.{place_due, flat_due, piece_due, measured_due, count_due, box_due, piece_within, tests, at_due, second_due, reversed_due, measure_due, quadrature_due, chords_due, polyline_due, uv_box_due, normal_due};
@@ -25,7 +26,7 @@ pub mod formula;
 pub mod parts;
 
 // A segment, an arc or a trace of a development, from `from` to `to`; never an arc and a trace.
-#[derive(Drop)]
+#[derive(Clone, Copy)]
 pub struct Rolled {
     pub dev: Development,
     pub from: Vec2,
@@ -35,42 +36,42 @@ pub struct Rolled {
 }
 
 // The answer of `at`: the point and its derivative.
-#[derive(Drop)]
+#[derive(Clone, Copy)]
 pub enum PlaceAnswer {
     Value(Place),
     Refused(u8),
 }
 
 // The answer of `second`.
-#[derive(Drop)]
+#[derive(Clone, Copy)]
 pub enum SecondAnswer {
     Value(Vec2),
     Refused(u8),
 }
 
 // The answer of `reversed`.
-#[derive(Drop)]
+#[derive(Clone, Copy)]
 pub enum RolledAnswer {
     Value(Rolled),
     Refused(u8),
 }
 
 // The answer of `measure`.
-#[derive(Drop)]
+#[derive(Clone, Copy)]
 pub enum MeasureAnswer {
     Value(Measure),
     Refused(u8),
 }
 
 // The answer of `quadrature_pieces`, `chords` and `polyline`.
-#[derive(Drop)]
+#[derive(Clone, Copy)]
 pub enum CountAnswer {
     Value(u16),
     Refused(u8),
 }
 
 // The answer of `uv_box`.
-#[derive(Drop)]
+#[derive(Clone, Copy)]
 pub enum FlatBoxAnswer {
     Value(FlatBox),
     Refused(u8),

@@ -1,4 +1,5 @@
 // An arc of a profile.
+#![tactic(auto)]
 ghost use Rattle.std.specs.Prelude.{◌≡◌, ◌&&◌};
 ghost use Rattle.checked.specs.Checked.{number_due};
 ghost use Rattle.vectors.specs.Vectors.{within2};
@@ -11,7 +12,7 @@ pub mod angles;
 pub mod formula;
 
 // An edge of a profile that is an arc about `center`, counterclockwise where `ccw` is true.
-#[derive(Drop)]
+#[derive(Clone, Copy)]
 pub struct ProfileArc {
     pub center: Vec2,
     pub ccw: bool,

@@ -1,5 +1,6 @@
 // Runs two lists against the port, the Rust's answers and cases worked out by hand: one line for each operation, and one for each call
 // whose answer is another.
+#![tactic(auto)]
 use bytes::scan::find;
 use std::num::{wrapping_add_u32, wrapping_add_u64};
 
@@ -19,14 +20,14 @@ mod of_traces;
 mod of_vectors;
 
 // How many calls came out how.
-#[derive(Drop)]
+#[derive(Clone, Copy)]
 struct Tally {
     alike: u64,
     different: u64,
 }
 
 // What stands after a line: where the next one begins, the line's number, its operation, the tally of that and of all.
-#[derive(Drop)]
+#[derive(Clone, Copy)]
 struct Progress {
     is_over: bool,
     at: u32,

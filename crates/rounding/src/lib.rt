@@ -1,5 +1,6 @@
 // IEEE 754's square root, ceiling and rounding to a whole number (halves away from zero), for every
 // f64. They refuse nothing: a NaN gives a NaN, and a number below zero has a NaN for its root.
+#![tactic(auto)]
 ghost use Rattle.std.specs.Prelude.{◌≡◌, ℕ, ◌+◌, ◌-◌, ◌*◌, ◌/◌, ◌%◌, ◌^◌, ◌≤◌, ◌<◌, false, pos, T};
 ghost use Rattle.std.specs.Float.{binary64, fin};
 ghost use Rattle.std.specs.Float.Ieee.{lt, of_int};
@@ -50,7 +51,7 @@ pub fn ceil(x: f64) -> f64
 fn nearest_up(a: f64) -> f64
     requires fact_1 { T (lt (fin false 0 (pos 0)) a) }
     requires fact_2 { T (lt a (fin false 1 (pos 52))) }
-    ensures { result ≡ Whole.«round_away» binary64 a }
+    ensures { result ≡ Whole.round_away binary64 a }
 {
     let y = nearest_whole(a);
     if a < y + 0.5 { y } else { y + 1.0 }
@@ -58,7 +59,7 @@ fn nearest_up(a: f64) -> f64
 
 // The whole number nearest to x, halves away from zero.
 pub fn round(x: f64) -> f64
-    ensures { result ≡ Whole.«round_away» binary64 x }
+    ensures { result ≡ Whole.round_away binary64 x }
 {
     if x > 0.0 {
         if x < 4503599627370496.0 {

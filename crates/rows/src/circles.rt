@@ -12,7 +12,7 @@ use vectors::{CheckedVec3, Vec3};
 
 // A circle and where on it the points start: its centre, the vector from there to the start, and
 // that vector a quarter turn on.
-#[derive(Drop)]
+#[derive(Clone, Copy)]
 pub struct Circle {
     pub center: Vec3,
     pub start: Vec3,

@@ -10,6 +10,7 @@
 //
 // Definitions and laws are those of items of any width (`Item` in specs/Rows.antt); a point is one
 // of three numbers.
+#![tactic(auto)]
 ghost use Rattle.std.specs.Prelude.{◌≡◌, ◌++◌, ◌+◌, ◌-◌, ◌*◌, ◌≤◌, length, take, drop};
 ghost use Rattle.rows.specs.Rows.{placed};
 
@@ -18,7 +19,7 @@ use vectors::Vec3;
 pub mod circles;
 
 // What a call on a lent row answers: the refusal's number or 0, and how many points are written.
-#[derive(Drop)]
+#[derive(Clone, Copy)]
 pub struct Written {
     pub refusal: u8,
     pub points: u16,

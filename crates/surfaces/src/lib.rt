@@ -1,4 +1,5 @@
 // The surface that a face lies on: what a program may call is here, the formulas that choose by its case in `formula`.
+#![tactic(auto)]
 ghost use Rattle.std.specs.Prelude.{◌≡◌};
 ghost use Rattle.checked.specs.Checked.{settled};
 ghost use Rattle.vectors.specs.Entries.{vector_due};
@@ -14,14 +15,14 @@ pub mod formula;
 pub mod normals;
 
 // A plane through `origin`, whose normal points out of the body.
-#[derive(Drop)]
+#[derive(Clone, Copy)]
 pub struct Plane {
     pub origin: Vec3,
     pub normal: Vec3,
 }
 
 // A circular cylinder: its axis through `origin` along the unit `axis`. Where it is `convex` the body lies inside.
-#[derive(Drop)]
+#[derive(Clone, Copy)]
 pub struct Cylinder {
     pub origin: Vec3,
     pub axis: Vec3,
@@ -29,7 +30,7 @@ pub struct Cylinder {
     pub convex: bool,
 }
 
-#[derive(Drop)]
+#[derive(Clone, Copy)]
 pub enum Surface {
     Plane(Plane),
     Cylinder(Cylinder),
@@ -39,21 +40,21 @@ pub enum Surface {
 }
 
 // A surface, with the refusal that its computation met first; 0 is none.
-#[derive(Drop)]
+#[derive(Clone, Copy)]
 pub struct CheckedSurface {
     pub value: Surface,
     pub refusal: u8,
 }
 
 // The answer of an entry whose result is a surface.
-#[derive(Drop)]
+#[derive(Clone, Copy)]
 pub enum SurfaceAnswer {
     Value(Surface),
     Refused(u8),
 }
 
 // The answer of `plane`: nothing for the other surfaces.
-#[derive(Drop)]
+#[derive(Clone, Copy)]
 pub enum PlaneAnswer {
     Value(Plane),
     Nothing,
@@ -61,7 +62,7 @@ pub enum PlaneAnswer {
 }
 
 // The answer of `revolution`: nothing for a plane and a wall.
-#[derive(Drop)]
+#[derive(Clone, Copy)]
 pub enum ConeAnswer {
     Value(Cone),
     Nothing,

@@ -1,4 +1,5 @@
 // Vectors in the plane and in space: what a program may call is here, the bare formulas are in `formula`.
+#![tactic(auto)]
 ghost use Rattle.std.specs.Prelude.{◌≡◌, ◌&&◌};
 ghost use Rattle.checked.specs.Checked.{number_due, settled, within};
 ghost use Rattle.vectors.specs.Vectors.{within2, within3, nines, plane, space};
@@ -9,14 +10,14 @@ use checked::{CheckedNumber, NumberAnswer, OUT_OF_RANGE, fails, is_within, note}
 pub mod formula;
 
 // A point or vector in the plane.
-#[derive(Drop)]
+#[derive(Clone, Copy)]
 pub struct Vec2 {
     pub x: f64,
     pub y: f64,
 }
 
 // A point or vector in space.
-#[derive(Drop)]
+#[derive(Clone, Copy)]
 pub struct Vec3 {
     pub x: f64,
     pub y: f64,
@@ -24,28 +25,28 @@ pub struct Vec3 {
 }
 
 // A vector, with the refusal that its computation met first; 0 is none.
-#[derive(Drop)]
+#[derive(Clone, Copy)]
 pub struct CheckedVec3 {
     pub value: Vec3,
     pub refusal: u8,
 }
 
 // The answer of an entry whose result is a vector.
-#[derive(Drop)]
+#[derive(Clone, Copy)]
 pub enum VectorAnswer {
     Value(Vec3),
     Refused(u8),
 }
 
 // The answer of an entry whose result is three numbers; zeros beside a refusal.
-#[derive(Drop)]
+#[derive(Clone, Copy)]
 pub struct Coordinates {
     pub refusal: u8,
     pub values: [f64; 3],
 }
 
 // The answer of an entry whose result is an index.
-#[derive(Drop)]
+#[derive(Clone, Copy)]
 pub enum IndexAnswer {
     Value(usize),
     Refused(u8),

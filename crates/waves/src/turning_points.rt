@@ -12,20 +12,20 @@ use rounding::ceil;
 const TURNING_POINTS: u16 = 4096;
 
 // The least and the greatest v.
-#[derive(Drop)]
+#[derive(Clone, Copy)]
 pub struct Span {
     pub low: f64,
     pub high: f64,
 }
 
-#[derive(Drop)]
+#[derive(Clone, Copy)]
 pub struct CheckedSpan {
     pub value: Span,
     pub refusal: u8,
 }
 
 // The turning points of the wave of a, b, c and n up to `hi`: the k-th is at first + k·half.
-#[derive(Drop)]
+#[derive(Clone, Copy)]
 pub struct Turning {
     pub a: f64,
     pub b: f64,
@@ -36,14 +36,14 @@ pub struct Turning {
     pub half: f64,
 }
 
-#[derive(Drop)]
+#[derive(Clone, Copy)]
 pub struct CheckedTurning {
     pub value: Turning,
     pub refusal: u8,
 }
 
 // The number of the next turning point, and the least and greatest v before it.
-#[derive(Drop)]
+#[derive(Clone, Copy)]
 pub struct RangeSoFar {
     pub k: f64,
     pub low: f64,

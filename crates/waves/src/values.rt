@@ -7,27 +7,27 @@ use checked::{CheckedNumber, note};
 use libm::sincos::sincos;
 
 // v and its first derivative in u.
-#[derive(Drop)]
+#[derive(Clone, Copy)]
 pub struct WaveSlope {
     pub v: f64,
     pub slope: f64,
 }
 
-#[derive(Drop)]
+#[derive(Clone, Copy)]
 pub struct CheckedWaveSlope {
     pub value: WaveSlope,
     pub refusal: u8,
 }
 
 // v with its first and second derivatives in u.
-#[derive(Drop)]
+#[derive(Clone, Copy)]
 pub struct Jet {
     pub v: f64,
     pub slope: f64,
     pub bend: f64,
 }
 
-#[derive(Drop)]
+#[derive(Clone, Copy)]
 pub struct CheckedJet {
     pub value: Jet,
     pub refusal: u8,

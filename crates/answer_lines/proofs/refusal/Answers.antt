@@ -1,0 +1,12 @@
+use borrow.Author.Rules.{rules}
+use Rattle.answer_lines.specs.Lines.{refusal}
+use borrow.Author.Tests.{le-leb, lt-leb}
+use Rattle.answer_lines.proofs.refusal.Goals as goal
+
+pub returns-then-line-ge5 : goal.returns-then-line-ge5
+unfolding refusal
+returns-then-line-ge5 c = simp (← c.pair.ensures, le-leb _ _ c.if-line-ge5.true)
+
+pub returns-else-line-ge5 : goal.returns-else-line-ge5
+unfolding refusal
+returns-else-line-ge5 c = simp (lt-leb _ _ c.if-line-ge5.false)

@@ -1,0 +1,5 @@
+use borrow.Author.Rules.{rules}
+use Rattle.arcs.proofs.Arc.outcome.Goals as goal
+
+pub returns : goal.returns
+returns c = simp (c.after.ensures, c.extended.ensures)

@@ -1,0 +1,15 @@
+use borrow.Author.Rules.{rules}
+use Rattle.arcs.specs.Chords.{cut_c}
+use Rattle.checked.specs.Laws.{first_assoc}
+use Rattle.arcs.specs.ChordsLaws.{cut_refusal}
+use Rattle.arcs.proofs.chords.cut_up.Goals as goal
+
+pub returns : goal.returns
+returns c =
+    let n = c.count-n.ensures in
+    let p = c.per_turn-p.ensures in
+    let s = c.sweep-s.ensures in
+    record {
+      refusal = simp (c.earlier-2.ensures, c.earlier.ensures, c.note.ensures, n.0, p.0, p.1, s.0, s.1, first_assoc, cut_refusal);
+      value = unfold cut_c in simp (n.1, p.1, s.1);
+    }

@@ -1,0 +1,20 @@
+use borrow.Author.Rules.{rules}
+use Rattle.checked.specs.Laws.{first_assoc}
+use Rattle.boxes.specs.Laws.{rules as boxes_rules}
+use Rattle.arcs.specs.ExtremesLaws.{points_refusal, points_value}
+use Rattle.arcs.proofs.extremes.extended.Goals as goal
+
+pub returns : goal.returns
+returns c =
+    let z = c.with_extremes.ensures in
+    let y = c.with_extremes-y.ensures in
+    let x = c.with_extremes-x.ensures in
+    let ends = c.earlier.ensures in
+    let to = c.widened-held.ensures in
+    let from = c.widened.ensures in
+    let s = c.sweep_from-s.ensures in
+    let u = c.minus-u.ensures in
+    record {
+      refusal = simp (z.0, y.0, x.0, ends, s.0, s.1, u, points_refusal, first_assoc);
+      value = simp (z.1, y.1, x.1, to, from, s.1, u, points_value, boxes_rules);
+    }

@@ -1,0 +1,5 @@
+use borrow.Author.Rules.{rules}
+use Rattle.c_arrays.proofs.arc_records.arc_at.Goals as goal
+
+pub returns : goal.returns
+returns c = simp (c.vec3_at-2.ensures, c.vec3_at.ensures)

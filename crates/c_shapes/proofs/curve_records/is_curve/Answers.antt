@@ -1,0 +1,7 @@
+use Rattle.c_shapes.specs.CurveRecords.{is_curve}
+use borrow.Author.Rules.{rules}
+use Rattle.c_shapes.proofs.curve_records.is_curve.Goals as goal
+
+pub returns : goal.returns
+unfolding is_curve
+returns c = simp c.is_piece.ensures

@@ -1,0 +1,12 @@
+use Rattle.c_arrays.specs.Records.{over}
+use Rattle.c_shapes.specs.CurveRecords.{curve_tags}
+use borrow.Author.Rules.{rules}
+use Rattle.c_shapes.proofs.curve_records.put_tags.Goals as goal
+
+pub returns-in-Arc : goal.returns-in-Arc
+unfolding over curve_tags
+returns-in-Arc c = simp c.enum_told-1.given.1
+
+pub returns-in-Rolled : goal.returns-in-Rolled
+unfolding over curve_tags
+returns-in-Rolled c = simp (c.trace_tag.ensures, c.arc_tag.ensures, c.c-1.given.1)

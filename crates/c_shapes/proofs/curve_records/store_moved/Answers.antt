@@ -1,0 +1,17 @@
+use Rattle.c_shapes.specs.Stores.{stored}
+use borrow.Author.Rules.{rules}
+use Rattle.c_shapes.proofs.curve_records.store_moved.Goals as goal
+
+pub returns-in-Value : goal.returns-in-Value
+unfolding stored
+returns-in-Value c = record {
+      number = simp c.a-1.given.1;
+      out = simp (c.put_curve.ensures, c.a-1.given.1);
+    }
+
+pub returns-in-Refused : goal.returns-in-Refused
+unfolding stored
+returns-in-Refused c = record {
+      number = simp c.a-in-Refused-1.given.1;
+      out = simp c.a-in-Refused-1.given.1;
+    }

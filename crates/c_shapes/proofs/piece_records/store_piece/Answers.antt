@@ -1,0 +1,20 @@
+use Rattle.c_arrays.specs.Records.{after, over}
+use Rattle.c_shapes.specs.Stores.{stored}
+use borrow.Author.Rules.{rules}
+use Rattle.c_shapes.proofs.piece_records.store_piece.Goals as goal
+
+pub returns-in-Value : goal.returns-in-Value
+unfolding stored after over
+returns-in-Value c = record {
+      number = simp c.a-1.given.1;
+      out = simp (c.put_piece.ensures, c.a-1.given.1);
+      tags = simp (c.trace_tag.ensures, c.arc_tag.ensures, c.a-1.given.1);
+    }
+
+pub returns-in-Refused : goal.returns-in-Refused
+unfolding stored after over
+returns-in-Refused c = record {
+      number = simp c.a-in-Refused-1.given.1;
+      out = simp c.a-in-Refused-1.given.1;
+      tags = simp c.a-in-Refused-1.given.1;
+    }

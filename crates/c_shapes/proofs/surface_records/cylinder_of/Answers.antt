@@ -1,0 +1,5 @@
+use borrow.Author.Rules.{rules}
+use Rattle.c_shapes.proofs.surface_records.cylinder_of.Goals as goal
+
+pub returns : goal.returns
+returns c = simp (c.vec3_at-2.ensures, c.vec3_at.ensures)

@@ -1,0 +1,25 @@
+use Rattle.c_arrays.specs.Records.{after}
+use Rattle.c_arrays.specs.TraceRecords.{some_due}
+use borrow.Author.Rules.{rules}
+use Rattle.c_shapes.proofs.surface_records.store_plane.Goals as goal
+
+pub returns-in-Value : goal.returns-in-Value
+unfolding after some_due
+returns-in-Value c = record {
+      number = simp c.a-1.given.1;
+      out = simp (c.put_plane.ensures, c.a-1.given.1);
+    }
+
+pub returns-in-Nothing : goal.returns-in-Nothing
+unfolding after some_due
+returns-in-Nothing c = record {
+      number = simp c.enum_told-1.given.1;
+      out = simp c.enum_told-1.given.1;
+    }
+
+pub returns-in-Refused : goal.returns-in-Refused
+unfolding after some_due
+returns-in-Refused c = record {
+      number = simp c.a-in-Refused-1.given.1;
+      out = simp c.a-in-Refused-1.given.1;
+    }

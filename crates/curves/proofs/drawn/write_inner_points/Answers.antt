@@ -1,0 +1,11 @@
+use borrow.Author.Rules.{rules}
+use Rattle.curves.specs.Drawn.{inner_points_due}
+use Rattle.curves.proofs.drawn.write_inner_points.Goals as goal
+
+pub returns-in-Arc : goal.returns-in-Arc
+unfolding inner_points_due
+returns-in-Arc c = simp c.c-1.given.1 c.write_inner_points.ensures
+
+pub returns-in-Rolled : goal.returns-in-Rolled
+unfolding inner_points_due
+returns-in-Rolled c = simp c.c-in-Rolled-1.given.1 c.write_piece.ensures

@@ -1,0 +1,10 @@
+use borrow.Author.Rules.{rules}
+use Rattle.directions.specs.Directions.{unit_c}
+use Rattle.directions.proofs.formula.unit.Goals as goal
+
+pub returns : goal.returns
+unfolding unit_c
+returns c = record {
+      refusal = simp c.over_length.ensures.refusal;
+      value = simp c.over_length.ensures.value;
+    }

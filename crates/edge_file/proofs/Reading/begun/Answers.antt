@@ -1,0 +1,5 @@
+use borrow.Author.Rules.{rules}
+use Rattle.edge_file.proofs.Reading.begun.Goals as goal
+
+pub returns : goal.returns
+returns c = simp c.empty.ensures

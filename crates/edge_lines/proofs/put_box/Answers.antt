@@ -1,0 +1,27 @@
+-- `edge_lines::put_box` meets its contract. Assumes nothing.
+use mathlib.Core.Path.{◌∙◌}
+use native.Mathlib.Omega.{arith}
+use lib.ListN.{drop}
+use Rattle.edge_lines.specs.Lines.{bytes}
+use Rattle.edge_lines.proofs.Before.{box_is, box_refused}
+use borrow.Author.Rules.{rules}
+use Rattle.edge_lines.proofs.put_box.Goals as goal
+
+pub returns-then-refusal-eq0 : goal.returns-then-refusal-eq0
+unfolding bytes
+returns-then-refusal-eq0 c =
+    let p = c.put in
+    let r = c.put_corners-corners in
+    let a = c.args in record {
+      upper_bound = omega (arith, p.ensures.0, r.ensures.0);
+      out_after = p.ensures.1 ∙ box_is r.result.refusal (drop r.result.at r.new.1.1.0) a.low a.high a.k c.if-refusal-eq0.true r.ensures.1;
+    }
+
+pub returns-else-refusal-eq0 : goal.returns-else-refusal-eq0
+returns-else-refusal-eq0 c =
+    let p = c.put_refused in
+    let r = c.put_corners-corners in
+    let a = c.args in record {
+      upper_bound = p.ensures.0;
+      out_after = p.ensures.1 ∙ box_refused r.result.refusal (drop r.result.at r.new.1.1.0) a.low a.high a.k c.if-refusal-eq0.false r.ensures.1;
+    }

@@ -1,0 +1,19 @@
+-- `edge_lines::put_corners` meets its contract. Assumes nothing.
+use mathlib.Core.Path.{◌∙◌, ap}
+use native.Mathlib.Omega.{arith}
+use Rattle.checked.specs.Checked.{due, settled}
+use Rattle.edge_lines.specs.Lines.{corner}
+use Rattle.edge_lines.proofs.Before.{newline}
+use borrow.Author.Rules.{rules}
+use Rattle.edge_lines.proofs.put_corners.Goals as goal
+
+pub returns : goal.returns
+unfolding settled
+returns c =
+    let l = c.put_point in
+    let h = c.put_point-second in
+    let e = c.put in
+    let a = c.args in record {
+      le_at = (omega (arith, l.ensures.0, h.ensures.0, e.ensures.0), omega (arith, l.ensures.0, h.ensures.0, e.ensures.0));
+      out_after = l.ensures.1 ∙ ap (corner a.low) (h.ensures.1 ∙ ap (λ t. corner a.high (due t)) (e.ensures.1 ∙ newline a.out.now 160 c.requires));
+    }

@@ -1,0 +1,14 @@
+-- `edge_lines::put_empty` meets its contract. Assumes nothing.
+use mathlib.Core.Path.{◌∙◌}
+use native.Mathlib.Omega.{arith}
+use Rattle.edge_lines.proofs.Before.{empty_is}
+use borrow.Author.Rules.{rules}
+use Rattle.edge_lines.proofs.put_empty.Goals as goal
+
+pub returns : goal.returns
+returns c =
+    let p = c.put in
+    record {
+      upper_bound = omega (arith, p.ensures.0);
+      out_after = p.ensures.1 ∙ empty_is c.args.out.now 160 c.requires;
+    }

@@ -1,0 +1,16 @@
+use mathlib.Core.Path.{sym, ◌∙◌}
+use borrow.Author.Rules.{rules}
+use Rattle.c_arrays.specs.Records.{after}
+use Rattle.c_shapes.specs.Stores.{stored}
+use Rattle.exports.proofs.of_pieces.jr_piece_reversed.Goals as goal
+
+pub returns-then-is_piece : goal.returns-then-is_piece
+returns-then-is_piece c = simp (sym c.is_piece.ensures ∙ c.if-is_piece.true) (simp (c.reversed.ensures, c.piece_of-c.ensures) at c.store_piece.ensures)
+
+pub returns-else-is_piece : goal.returns-else-is_piece
+unfolding after stored
+returns-else-is_piece c = record {
+      number = simp (sym c.is_piece.ensures ∙ c.if-is_piece.false);
+      out = simp (sym c.is_piece.ensures ∙ c.if-is_piece.false);
+      tags = simp (sym c.is_piece.ensures ∙ c.if-is_piece.false);
+    }

@@ -1,0 +1,14 @@
+use mathlib.Core.Path.{sym, ◌∙◌}
+use borrow.Author.Rules.{rules}
+use Rattle.c_arrays.specs.Records.{after}
+use Rattle.exports.proofs.of_surfaces.jr_surface_revolution.Goals as goal
+
+pub returns-then-is_surface : goal.returns-then-is_surface
+returns-then-is_surface c = simp (sym c.is_surface.ensures ∙ c.if-is_surface.true) (simp (c.revolution.ensures, c.surface_of-f.ensures) at c.store_cone.ensures)
+
+pub returns-else-is_surface : goal.returns-else-is_surface
+unfolding after
+returns-else-is_surface c = record {
+      number = simp (sym c.is_surface.ensures ∙ c.if-is_surface.false);
+      out = simp (sym c.is_surface.ensures ∙ c.if-is_surface.false);
+    }

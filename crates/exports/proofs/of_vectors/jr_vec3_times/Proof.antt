@@ -1,9 +1,0 @@
-use borrow.Author.Rules.{rules}
-use Rattle.exports.proofs.of_vectors.jr_vec3_times.Statement.{statement}
-use Rattle.exports.proofs.of_vectors.jr_vec3_times.Tie as tie
-
-returns : tie.Need-returns
-returns c = simp (c.before.before.times.ensures, c.before.before.before.vec3-of.ensures) at c.store_vector.ensures
-
-pub jr-vec3-times-spec : {M : Type 1} → statement M
-jr-vec3-times-spec = tie.close (tie.spec (λ c κs. search rules) (λ c κs. search rules) (λ c κs. search rules) returns)

@@ -1,0 +1,13 @@
+use borrow.Author.Rules.{rules}
+use Rattle.checked.specs.Laws.{first_assoc}
+use Rattle.integrals.specs.Along.{node_at_c}
+use Rattle.face_paths.proofs.node_at.Goals as goal
+
+pub returns : goal.returns
+unfolding node_at_c
+returns c =
+    let p = c.place_at-q.ensures in
+    record {
+      refusal = simp (c.node.ensures.refusal, c.earlier.ensures, p.0, p.1, first_assoc);
+      value = simp (c.node.ensures.value, p.1);
+    }

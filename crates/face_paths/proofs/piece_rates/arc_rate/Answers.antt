@@ -1,0 +1,13 @@
+use borrow.Author.Rules.{rules}
+use Rattle.face_paths.specs.PieceRates.{arc_c}
+use Rattle.checked.specs.Laws.{rules as checked_rules}
+use Rattle.face_paths.proofs.piece_rates.arc_rate.Goals as goal
+
+pub returns : goal.returns
+unfolding arc_c
+returns c =
+    let w = c.swing-w.ensures in
+    record {
+      refusal = simp (c.note-3.ensures, c.note-2.ensures, c.note.ensures, w.0, w.1, checked_rules);
+      value = simp w.1;
+    }

@@ -1,0 +1,15 @@
+use borrow.Author.Rules.{rules}
+use Rattle.face_paths.specs.PieceRates.{meet_c}
+use Rattle.checked.specs.Laws.{first_zero}
+use Rattle.piece_curves.specs.MeetCurvesLaws.{point_refusal, point_value}
+use Rattle.face_paths.proofs.piece_rates.meet_rate.Goals as goal
+
+pub returns : goal.returns
+unfolding meet_c
+returns c =
+    let p = c.placed-p.ensures in
+    let m = c.motion-m.ensures in
+    record {
+      refusal = simp (c.earlier-2.ensures, c.earlier.ensures, p.0, m.0, m.1.1.1.1.0, m.1.1.1.1.1, first_zero, point_refusal);
+      value = simp (p.1, m.1.0, m.1.1.1.1.1, point_value);
+    }

@@ -1,0 +1,16 @@
+use borrow.Author.Rules.{rules}
+use Rattle.checked.specs.Laws.{first_assoc, first_zero}
+use Rattle.face_paths.specs.ArcPaths.{arc_path_c}
+use Rattle.face_paths.specs.Paths.{face_path_at, with_arc_c}
+use Rattle.face_paths.proofs.with_arc.Goals as goal
+
+pub returns : goal.returns
+unfolding with_arc_c arc_path_c face_path_at
+returns c =
+    let w = c.revolve-w.ensures in
+    let d = c.arc_path_of-c.ensures in
+    let a = c.along-a.ensures in
+    record {
+      refusal = simp (a.0, c.earlier.ensures, d.0, d.1, w.0, w.1, first_zero, first_assoc);
+      value = simp (a.1, d.1, w.1);
+    }

@@ -1,0 +1,12 @@
+use mathlib.Core.Path.{sym, subst}
+use borrow.Author.Rules.{rules}
+use lib.Dec.{T}
+use lib.Ieee.{binary64, fits}
+use Rattle.float_bits.specs.Laws.{fabs_bits, size_number}
+use Rattle.libm.proofs.atan.fabs_number.Goals as goal
+
+pub float_from_bits-result : goal.float_from_bits-result
+float_from_bits-result c = size_number c.args.x ((subst T (sym c.well_formed.0.1) tt)) c.requires
+
+pub returns : goal.returns
+returns c = fabs_bits c.args.x ((subst T (sym c.well_formed.0.1) tt))

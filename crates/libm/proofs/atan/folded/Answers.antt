@@ -1,0 +1,5 @@
+use borrow.Author.Rules.{rules}
+use Rattle.libm.proofs.atan.folded.Goals as goal
+
+pub returns : goal.returns
+returns c = simp c.series.ensures

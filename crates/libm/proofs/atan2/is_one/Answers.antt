@@ -1,0 +1,7 @@
+use borrow.Author.Rules.{rules}
+use Rattle.libm.specs.Atan2.{is_one}
+use Rattle.libm.proofs.atan2.is_one.Goals as goal
+
+pub returns : goal.returns
+unfolding is_one
+returns c = simp (← c.bits.ensures)

@@ -1,0 +1,11 @@
+use borrow.Author.Rules.{rules}
+use Rattle.meets.specs.Entries.{turn_within}
+use Rattle.meets.proofs.Turn.is_within_limit.Goals as goal
+
+pub returns-in-Without : goal.returns-in-Without
+unfolding turn_within
+returns-in-Without c = simp c.enum_told-1.given.1
+
+pub returns-in-Angles : goal.returns-in-Angles
+unfolding turn_within
+returns-in-Angles c = simp (c.is_within-in-Angles.ensures, c.is_within.ensures, c.self-1.given.1)

@@ -1,0 +1,24 @@
+use Rattle.c_arrays.specs.Records.{over}
+use Rattle.piece_arrays.specs.Arrays.{of_trace}
+use native.Mathlib.Omega.{arith}
+use lib.ListN.{length-set}
+use borrow.Author.Rules.{rules}
+use Rattle.piece_arrays.proofs.put_trace.Goals as goal
+
+pub bounds-out : goal.bounds-out
+bounds-out c = simp length-set (omega arith)
+
+pub bounds-out-in-Wave : goal.bounds-out-in-Wave
+bounds-out-in-Wave c = simp length-set (omega arith)
+
+pub returns-in-Without : goal.returns-in-Without
+unfolding over of_trace
+returns-in-Without c = simp c.enum_told-1.given.1
+
+pub returns-in-Wave : goal.returns-in-Wave
+unfolding over of_trace
+returns-in-Wave c = simp (c.t-1.given.1, c.trace-1.given.1)
+
+pub returns-in-Meet : goal.returns-in-Meet
+unfolding of_trace
+returns-in-Meet c = simp (c.put_meet.ensures, c.t-in-With-1.given.1, c.trace-1.given.1)

@@ -1,0 +1,11 @@
+use borrow.Author.Rules.{rules}
+use Rattle.piece_curves.specs.MeetCurves.{angle_c}
+use Rattle.piece_curves.proofs.meet_curves.angle.Goals as goal
+
+pub returns-in-Without : goal.returns-in-Without
+unfolding angle_c
+returns-in-Without c = simp c.enum_told-1.given.1
+
+pub returns-in-Angles : goal.returns-in-Angles
+unfolding angle_c
+returns-in-Angles c = simp c.k-1.given.1

@@ -1,0 +1,13 @@
+use borrow.Author.Rules.{rules}
+use Rattle.piece_curves.specs.SpacePoints.{rolled_c}
+use Rattle.piece_curves.proofs.space_points.rolled_point.Goals as goal
+
+pub returns : goal.returns
+unfolding rolled_c
+returns c =
+    let p = c.point-x.ensures in
+    let f = c.flat_point-f.ensures in
+    record {
+      refusal = simp (c.earlier.ensures, p.0, f.0, f.1);
+      value = simp (p.1, f.1);
+    }

@@ -1,0 +1,12 @@
+use mathlib.Core.Path.{refl}
+use borrow.Author.Rules.{rules}
+use Rattle.piece_curves.specs.SpacePoints.{straight_c}
+use Rattle.checked.specs.Laws.{rules as checked_rules}
+use Rattle.piece_curves.proofs.space_points.straight_point.Goals as goal
+
+pub returns : goal.returns
+unfolding straight_c
+returns c = record {
+      refusal = simp (c.note-4.ensures, c.note-3.ensures, c.note-2.ensures, c.note.ensures, checked_rules);
+      value = refl;
+    }

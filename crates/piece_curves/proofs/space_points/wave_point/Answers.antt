@@ -1,0 +1,13 @@
+use borrow.Author.Rules.{rules}
+use Rattle.piece_curves.specs.SpacePoints.{wave_c}
+use Rattle.checked.specs.Laws.{rules as checked_rules}
+use Rattle.piece_curves.proofs.space_points.wave_point.Goals as goal
+
+pub returns : goal.returns
+unfolding wave_c
+returns c =
+    let h = c.v-h.ensures in
+    record {
+      refusal = simp (c.earlier.ensures, c.note.ensures, h.0, checked_rules);
+      value = simp h.1;
+    }

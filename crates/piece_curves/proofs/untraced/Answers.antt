@@ -1,0 +1,11 @@
+use borrow.Author.Rules.{rules}
+use Rattle.piece_curves.specs.PieceCurves.{untraced}
+use Rattle.piece_curves.proofs.untraced.Goals as goal
+
+pub returns-in-Without : goal.returns-in-Without
+unfolding untraced
+returns-in-Without c = simp c.enum_told-1.given.1
+
+pub returns-in-With : goal.returns-in-With
+unfolding untraced
+returns-in-With c = simp c.arc-1.given.1

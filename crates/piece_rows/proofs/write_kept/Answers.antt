@@ -1,0 +1,32 @@
+use mathlib.Core.Path.{◌≡◌, sym, ◌∙◌}
+use borrow.Author.Rules.{rules}
+use Rattle.checked.specs.Checked.{Checked, first}
+use Rattle.checked.specs.Laws.{zero_first}
+use Rattle.rows.specs.Rows.{up_to, point}
+use Rattle.piece_rows.specs.Inner.{inner_c}
+use Rattle.rows.specs.Laws.{flat_length, flat_part, some_due_lem, some_refused}
+use Rattle.piece_rows.proofs.write_kept.Goals as goal
+
+pub returns-then-r-eq0 : goal.returns-then-r-eq0
+returns-then-r-eq0 c =
+    let start = c.args in
+    let f = inner_c start.g start.n in
+    let none = c.if-r-eq0.true in
+    let points = c.work_out-r.ensures in
+    let r : first 0 (up_to f start.m).refusal ≡ c.work_out-r.result = simp (zero_first, points.0) in
+    let due = some_due_lem 0 f start.m (r ∙ none) in
+    record {
+      number = simp (due, none);
+      row = simp (due, c.copy_part.ensures, points.1, flat_part point, flat_length);
+    }
+
+pub returns-else-r-eq0 : goal.returns-else-r-eq0
+returns-else-r-eq0 c =
+    let start = c.args in
+    let f = inner_c start.g start.n in
+    let r : c.work_out-r.result ≡ first 0 (up_to f start.m).refusal = simp (zero_first, c.work_out-r.ensures.refusal) in
+    let due = some_refused 0 f start.m (λ z. c.if-r-eq0.false (r ∙ z)) in
+    record {
+      number = simp (due, r);
+      row = simp due;
+    }

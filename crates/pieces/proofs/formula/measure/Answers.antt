@@ -1,0 +1,19 @@
+use borrow.Author.Rules.{rules}
+use Rattle.checked.specs.Laws.{zero_first}
+use Rattle.piece_curves.specs.PieceCurves.{kind_c}
+use Rattle.piece_curves.specs.PieceCurves as runs
+use Rattle.pieces.specs.Pieces.{run_c}
+use Rattle.pieces.proofs.formula.measure.Goals as goal
+
+pub returns-in-Without : goal.returns-in-Without
+unfolding run_c runs.curve_c kind_c
+returns-in-Without c = record {
+      refusal = simp (c.untraced_measure.ensures.refusal, c.enum_told-1.given.1, zero_first);
+      value = simp (c.untraced_measure.ensures.value, c.enum_told-1.given.1);
+    }
+
+pub returns-in-With : goal.returns-in-With
+returns-in-With c = record {
+      refusal = c.run_measure.ensures.refusal;
+      value = c.run_measure.ensures.value;
+    }

@@ -1,0 +1,19 @@
+use borrow.Author.Rules.{rules}
+use Rattle.checked.specs.Laws.{zero_first, first_zero}
+use Rattle.piece_curves.specs.PieceCurves.{traced_c, meet_kind_c}
+use Rattle.piece_curves.specs.Points.{at_c}
+use Rattle.pieces.proofs.formula.traced_at.Goals as goal
+
+pub returns-in-Wave : goal.returns-in-Wave
+unfolding traced_c at_c
+returns-in-Wave c = record {
+      refusal = simp (c.wave_at.ensures.refusal, c.f-1.given.1, zero_first);
+      value = simp (c.wave_at.ensures.value, c.f-1.given.1);
+    }
+
+pub returns-in-Meet : goal.returns-in-Meet
+unfolding traced_c meet_kind_c at_c
+returns-in-Meet c = record {
+      refusal = simp (c.meet_at.ensures.refusal, c.f-in-Meet-1.given.1, first_zero);
+      value = simp (c.meet_at.ensures.value, c.f-in-Meet-1.given.1);
+    }

@@ -1,0 +1,11 @@
+use borrow.Author.Rules.{rules}
+use Rattle.pieces.specs.Reversals.{curve_back}
+use Rattle.pieces.proofs.parts.curve_back.Goals as goal
+
+pub returns-in-Wave : goal.returns-in-Wave
+unfolding curve_back
+returns-in-Wave c = simp c.t-1.given.1
+
+pub returns-in-Meet : goal.returns-in-Meet
+unfolding curve_back
+returns-in-Meet c = simp (c.turn_back-back.ensures, c.t-in-Meet-1.given.1)

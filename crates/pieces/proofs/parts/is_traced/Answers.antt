@@ -1,0 +1,11 @@
+use borrow.Author.Rules.{rules}
+use Rattle.pieces.specs.Tests.{is_traced}
+use Rattle.pieces.proofs.parts.is_traced.Goals as goal
+
+pub returns-in-Without : goal.returns-in-Without
+unfolding is_traced
+returns-in-Without c = simp c.enum_told-1.given.1
+
+pub returns-in-With : goal.returns-in-With
+unfolding is_traced
+returns-in-With c = simp c.enum_told-in-With-1.given.1

@@ -1,0 +1,11 @@
+use borrow.Author.Rules.{rules}
+use Rattle.pieces.specs.Reversals.{turn_back}
+use Rattle.pieces.proofs.parts.turn_back.Goals as goal
+
+pub returns-in-Without : goal.returns-in-Without
+unfolding turn_back
+returns-in-Without c = simp c.enum_told-1.given.1
+
+pub returns-in-Angles : goal.returns-in-Angles
+unfolding turn_back
+returns-in-Angles c = simp c.t-1.given.1

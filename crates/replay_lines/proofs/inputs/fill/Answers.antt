@@ -1,0 +1,5 @@
+use Rattle.std.proofs.Common.{◌≡◌, ◌-◌, length, arith, rules}
+use Rattle.replay_lines.proofs.inputs.fill.Goals as goal
+
+pub loop-i-smaller : goal.loop-i-smaller
+loop-i-smaller c = omega arith

@@ -1,0 +1,5 @@
+use borrow.Author.Rules.{rules}
+use Rattle.revolutions.proofs.closings.are_finite.Goals as goal
+
+pub returns : goal.returns
+returns c = simp (c.is_finite-2.ensures, c.is_finite.ensures)

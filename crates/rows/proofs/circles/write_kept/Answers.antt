@@ -1,0 +1,32 @@
+use mathlib.Core.Path.{◌≡◌, refl, sym, ◌∙◌}
+use borrow.Author.Rules.{rules}
+use lib.ListN.{length}
+use Rattle.checked.specs.Checked.{Checked, first}
+use Rattle.rows.specs.Rows.{up_to, point}
+use Rattle.rows.specs.Circles.{circle_at_c}
+use Rattle.rows.specs.Laws.{flat_length, flat_part, some_due_lem, some_refused}
+use Rattle.rows.proofs.circles.write_kept.Goals as goal
+
+pub returns-then-r-eq0 : goal.returns-then-r-eq0
+returns-then-r-eq0 c =
+    let start = c.args in
+    let f = circle_at_c start.rim start.turn start.n in
+    let none = c.if-r-eq0.true in
+    let points = c.work_out.ensures in
+    let r : c.earlier-r.result ≡ first start.before (up_to f start.m).refusal = simp (c.earlier-r.ensures, points.0) in
+    let due = some_due_lem start.before f start.m (sym r ∙ none) in
+    record {
+      number = simp (due, none);
+      row = simp (due, c.copy_part.ensures, points.1, flat_part point, flat_length);
+    }
+
+pub returns-else-r-eq0 : goal.returns-else-r-eq0
+returns-else-r-eq0 c =
+    let start = c.args in
+    let f = circle_at_c start.rim start.turn start.n in
+    let r : c.earlier-r.result ≡ first start.before (up_to f start.m).refusal = simp (c.earlier-r.ensures, c.work_out.ensures.refusal) in
+    let due = some_refused start.before f start.m (λ z. c.if-r-eq0.false (r ∙ z)) in
+    record {
+      number = simp (due, r);
+      row = simp due;
+    }

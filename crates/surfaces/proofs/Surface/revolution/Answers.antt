@@ -1,0 +1,26 @@
+use borrow.Author.Rules.{rules}
+use Rattle.surfaces.specs.Surfaces.{cone_of}
+use Rattle.surfaces.specs.Entries.{revolution_due}
+use Rattle.checked.specs.TestsLaws.{passing_none, passing_some}
+use mathlib.Core.Path.{sym}
+use Rattle.surfaces.proofs.Surface.revolution.Goals as goal
+
+pub returns-in-Plane : goal.returns-in-Plane
+unfolding revolution_due cone_of
+returns-in-Plane c = simp (c.if-n-eq0.true, passing_none, ← c.tried-n.ensures) (simp c.enum_told-1.given.1)
+
+pub returns-in-Cylinder : goal.returns-in-Cylinder
+unfolding revolution_due cone_of
+returns-in-Cylinder c = simp (c.if-n-eq0.true, passing_none, ← c.tried-n.ensures) (simp c.self-1.given.1)
+
+pub returns-in-Cone : goal.returns-in-Cone
+unfolding revolution_due cone_of
+returns-in-Cone c = simp (c.if-n-eq0.true, passing_none, ← c.tried-n.ensures) (simp c.self-in-Cone-1.given.1)
+
+pub returns-in-Wall : goal.returns-in-Wall
+unfolding revolution_due cone_of
+returns-in-Wall c = simp (c.if-n-eq0.true, passing_none, ← c.tried-n.ensures) (simp c.enum_told-in-Wall-1.given.1)
+
+pub returns-else-n-eq0 : goal.returns-else-n-eq0
+unfolding revolution_due cone_of
+returns-else-n-eq0 c = simp (← c.tried-n.ensures) (sym (passing_some _ _ c.if-n-eq0.false))

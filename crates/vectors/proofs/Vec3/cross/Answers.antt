@@ -1,0 +1,14 @@
+use borrow.Author.Rules.{rules}
+use Rattle.vectors.specs.Entries.{cross_due}
+use Rattle.vectors.specs.Laws.{rules as vectors_rules}
+use Rattle.checked.specs.TestsLaws.{passing_none, passing_some}
+use mathlib.Core.Path.{sym}
+use Rattle.vectors.proofs.Vec3.cross.Goals as goal
+
+pub returns-then-t-eq0 : goal.returns-then-t-eq0
+unfolding cross_due
+returns-then-t-eq0 c = simp (c.tried.ensures, c.cross.ensures, c.if-t-eq0.true, passing_none, ← c.fails-t.ensures, ← c.are_within.ensures, vectors_rules)
+
+pub returns-else-t-eq0 : goal.returns-else-t-eq0
+unfolding cross_due
+returns-else-t-eq0 c = simp (← c.fails-t.ensures, ← c.are_within.ensures) (sym (passing_some _ _ c.if-t-eq0.false))

@@ -1,0 +1,13 @@
+use borrow.Author.Rules.{rules}
+use Rattle.checked.specs.Laws.{first_assoc}
+use Rattle.walls.specs.CutWalls.{node_at_c}
+use Rattle.walls.proofs.cut_walls.formula.node_at.Goals as goal
+
+pub returns : goal.returns
+unfolding node_at_c
+returns c =
+    let q = c.at-q.ensures in
+    record {
+      refusal = simp (c.node.ensures.refusal, c.earlier.ensures, q.0, q.1, first_assoc);
+      value = simp (c.node.ensures.value, q.1);
+    }

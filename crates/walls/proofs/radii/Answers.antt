@@ -1,0 +1,22 @@
+use mathlib.Core.Path.{◌≡◌}
+use Prim.Native.Nat.{◌≤◌, ◌-◌}
+use native.Mathlib.Omega.{arith}
+use borrow.Author.Rules.{rules}
+use Rattle.checked.specs.Loops.{fold_c}
+use Rattle.checked.specs.LoopsLaws.{fold_none, fold_value}
+use Rattle.walls.specs.Walls.{radius_c}
+use Rattle.walls.proofs.radii.Goals as goal
+
+pub loop-k-init : goal.loop-k-init
+loop-k-init c = (omega arith, simp fold_none)
+
+pub loop-k-smaller : goal.loop-k-smaller
+loop-k-smaller c = omega arith
+
+pub loop-k-preserved : goal.loop-k-preserved
+loop-k-preserved c = (omega arith, simp (c.patch-a.ensures, c.lies.ensures, c.loop-k.invariant.1, fold_value))
+
+pub returns : goal.returns
+returns c =
+    let all : c.loop-k.k ≡ 8 = omega arith in
+    simp (c.loop-k.invariant.1, all)
