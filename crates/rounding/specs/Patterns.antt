@@ -79,6 +79,12 @@ not_zero n e g h =
     lt_irrefl 0 (subst (λ (k : ℕ). 0 < k) (sym h ∙ ap (λ (k : ℕ). k * down g) (zero-mul (up e)) ∙ zero-mul (down g)) (mul-pos (mul-pos (zero-lt-suc n) (up_pos g)) (down_pos e)))
 
 pub value_unique : (f : Format) (x y : Float) (s : Bool) (a c : ℕ) → 0 < c → T (fits f x) → T (fits f y) → HasValue x s a c → HasValue y s a c → x ≡ y
+value_unique f nan y s a c C p q v w = elim v [ ]
+value_unique f (inf _) y s a c C p q v w = elim v [ ]
+value_unique f (fin t zero e) nan s a c C p q v w = elim w [ ]
+value_unique f (fin t zero e) (inf _) s a c C p q v w = elim w [ ]
+value_unique f (fin t (suc m) e) nan s a c C p q v w = elim w [ ]
+value_unique f (fin t (suc m) e) (inf _) s a c C p q v w = elim w [ ]
 value_unique f (fin t zero e) (fin u zero g) s a c C p q v w = λ i. fin ((v.0 ∙ sym w.0) i) zero ((zero_exponent f t e p ∙ sym (zero_exponent f u g q)) i)
 value_unique f (fin t zero e) (fin u (suc n) g) s a c C p q v w = absurd (not_zero n e g (cross (0 * up e) (suc n * up g) (down e) (down g) a c C v.1 w.1))
 value_unique f (fin t (suc m) e) (fin u zero g) s a c C p q v w = absurd (not_zero m g e (cross (0 * up g) (suc m * up e) (down g) (down e) a c C w.1 v.1))

@@ -15,8 +15,8 @@ pub mod whole_roots;
 // A whole number at most a half away from a. From 2^52 to 2^53 the f64 are the whole numbers, so
 // the sum is rounded to one of them, and the difference is exact.
 fn nearest_whole(a: f64) -> f64
-    requires fact_1 { T (lt (fin false 0 (pos 0)) a) }
-    requires fact_2 { T (lt a (fin false 1 (pos 52))) }
+    requires above_zero { T (lt (fin false 0 (pos 0)) a) }
+    requires below_wholes { T (lt a (fin false 1 (pos 52))) }
     ensures { (k : ℕ) × (result ≡ of_int binary64 (pos k)) × Whole.Near a k }
 {
     a + 4503599627370496.0 - 4503599627370496.0
@@ -49,8 +49,8 @@ pub fn ceil(x: f64) -> f64
 // The whole number nearest to a, halves up. The test takes y + 0.5, which is exact, and not a +
 // 0.5, which would take the f64 next below a half to 1.
 fn nearest_up(a: f64) -> f64
-    requires fact_1 { T (lt (fin false 0 (pos 0)) a) }
-    requires fact_2 { T (lt a (fin false 1 (pos 52))) }
+    requires above_zero { T (lt (fin false 0 (pos 0)) a) }
+    requires below_wholes { T (lt a (fin false 1 (pos 52))) }
     ensures { result ≡ Whole.round_away binary64 a }
 {
     let y = nearest_whole(a);

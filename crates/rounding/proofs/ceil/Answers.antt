@@ -15,12 +15,15 @@ no h = subst (λ (a : Bool). T (not a)) (sym h) tt
 pub nearest_whole-y-requires : goal.nearest_whole-y-requires
 unfolding of_bits
 nearest_whole-y-requires c = record {
-      fact_1 = yes c.if-x.true;
-      fact_2 = yes c.if-x-2.true;
+      above_zero = yes c.if-x.true;
+      below_wholes = yes c.if-x-2.true;
     }
 
 pub nearest_whole-y-requires-then-x-4 : goal.nearest_whole-y-requires-then-x-4
-nearest_whole-y-requires-then-x-4 c = turned_below c.args.x ((small_below c.args.x (yes c.if-x-3.true) (yes c.if-x-4.true)))
+unfolding of_bits neg
+nearest_whole-y-requires-then-x-4 c = 
+    let t = turned_below c.args.x (small_below c.args.x (yes c.if-x-3.true) (yes c.if-x-4.true)) in
+    record { above_zero = t.0; below_wholes = t.1 }
 
 pub returns-then-y-x : goal.returns-then-y-x
 unfolding of_bits
@@ -28,6 +31,7 @@ returns-then-y-x c =
     ceil_up_at c.args.x c.nearest_whole-y.result ((small c.args.x (yes c.if-x.true) (yes c.if-x-2.true))) c.nearest_whole-y.ensures (yes c.if-y-x.true)
 
 pub returns-else-y-x : goal.returns-else-y-x
+unfolding of_bits
 returns-else-y-x c =
     ceil_stays_at c.args.x c.nearest_whole-y.result ((small c.args.x (yes c.if-x.true) (yes c.if-x-2.true))) c.nearest_whole-y.ensures (no c.if-y-x.false)
 
@@ -37,11 +41,12 @@ returns-else-x-2 c =
     ceil_large c.args.x ((subst T (sym c.well_formed.0.1) tt)) (large c.args.x ((subst T (sym c.well_formed.0.1) tt)) (yes c.if-x.true) (no c.if-x-2.false))
 
 pub returns-then-x-y : goal.returns-then-x-y
-unfolding of_bits
+unfolding of_bits neg
 returns-then-x-y c =
     ceil_below_less_at c.args.x ((small_below c.args.x (yes c.if-x-3.true) (yes c.if-x-4.true))) c.nearest_whole-y-then-x-4.result c.nearest_whole-y-then-x-4.ensures (yes c.if-x-y.true)
 
 pub returns-else-x-y : goal.returns-else-x-y
+unfolding of_bits neg
 returns-else-x-y c =
     ceil_below_stays_at c.args.x ((small_below c.args.x (yes c.if-x-3.true) (yes c.if-x-4.true))) c.nearest_whole-y-then-x-4.result c.nearest_whole-y-then-x-4.ensures (no c.if-x-y.false)
 

@@ -13,4 +13,4 @@ at x S = subst (λ (v : Float). (k : ℕ) × (sub binary64 (add binary64 v big) 
 
 pub returns : goal.returns
 unfolding of_bits
-returns c = at c.args.a (small c.args.a c.requires.0 c.requires.1)
+returns c = at c.args.a (small c.args.a c.requires.above_zero c.requires.below_wholes)

@@ -15,14 +15,18 @@ no h = subst (λ (a : Bool). T (not a)) (sym h) tt
 pub nearest_up-requires : goal.nearest_up-requires
 unfolding of_bits
 nearest_up-requires c = record {
-      fact_1 = yes c.if-x.true;
-      fact_2 = yes c.if-x-2.true;
+      above_zero = yes c.if-x.true;
+      below_wholes = yes c.if-x-2.true;
     }
 
 pub nearest_up-requires-then-x-4 : goal.nearest_up-requires-then-x-4
-nearest_up-requires-then-x-4 c = turned_below c.args.x ((small_below c.args.x (yes c.if-x-3.true) (yes c.if-x-4.true)))
+unfolding of_bits neg
+nearest_up-requires-then-x-4 c =
+    let t = turned_below c.args.x (small_below c.args.x (yes c.if-x-3.true) (yes c.if-x-4.true)) in
+    record { above_zero = t.0; below_wholes = t.1 }
 
 pub returns-then-x-2 : goal.returns-then-x-2
+unfolding of_bits
 returns-then-x-2 c = c.nearest_up.ensures
 
 pub returns-else-x-2 : goal.returns-else-x-2
@@ -31,6 +35,7 @@ returns-else-x-2 c =
     round_large c.args.x ((subst T (sym c.well_formed.0.1) tt)) (large c.args.x ((subst T (sym c.well_formed.0.1) tt)) (yes c.if-x.true) (no c.if-x-2.false))
 
 pub returns-then-x-4 : goal.returns-then-x-4
+unfolding of_bits neg
 returns-then-x-4 c = ap neg c.nearest_up-then-x-4.ensures ∙ round_below_at c.args.x ((small_below c.args.x (yes c.if-x-3.true) (yes c.if-x-4.true)))
 
 pub returns-else-x-4 : goal.returns-else-x-4

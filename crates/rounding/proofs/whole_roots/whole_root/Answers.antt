@@ -19,7 +19,7 @@ pub overflow_sub-s : goal.overflow_sub-s
 overflow_sub-s c = sq_pos c.args.n c.loop-s.s c.loop-s-test.true
 
 pub loop-s-smaller : goal.loop-s-smaller
-loop-s-smaller c = omega (arith, sub-s c)
+loop-s-smaller c = omega (arith, overflow_sub-s c)
 
 pub loop-s-preserved : goal.loop-s-preserved
 loop-s-preserved c = omega arith
