@@ -110,6 +110,7 @@ accepted_passed h c t = cases h c.refusal (rw (on_free empty h c empty_free) at 
 
 -- ---- lists
 map_to : (k : Axis) (p : Vec3) (ps : List Vec3) → Memᴰ p ps → Memᴰ (at k p) (map (at k) ps)
+map_to k p [] x' = elim x' [ ]
 map_to k p (q ∷ ps) (Memᴰ.head e) = Memᴰ.head (ap (at k) e)
 map_to k p (q ∷ ps) (Memᴰ.tail m) = Memᴰ.tail (map_to k p ps m)
 
@@ -187,6 +188,7 @@ module _ {Edge : Type 0} (handed : Edge → ℕ) (points : Edge → Checked (Lis
 
     points_to : (e : Edge) (p : Vec3) (es : List Edge) → Memᴰ e es → Memᴰ p (points e).value → Memᴰ p (points_of handed points es)
     unfolding points_of
+    points_to e p [] x'' m = elim x'' [ ]
     points_to e p (f ∷ es) (Memᴰ.head q) m = Memᴰ.append_left (points_of handed points es) (subst (λ (g : Edge). Memᴰ p (points g).value) q m)
     points_to e p (f ∷ es) (Memᴰ.tail n) m = Memᴰ.append_right (points f).value (points_to e p es n m)
 

@@ -13,8 +13,8 @@ returns-then-refusal-eq0 c =
     let p = c.put in
     let r = c.put_corners-corners in
     let a = c.args in record {
-      upper_bound = omega (arith, p.ensures.0, r.ensures.0);
-      out_after = p.ensures.1 ∙ box_is r.result.refusal (drop r.result.at r.new.1.1.0) a.low a.high a.k c.if-refusal-eq0.true r.ensures.1;
+      upper_bound = omega (arith, p.ensures.text_value, r.ensures.le_at);
+      out_after = p.ensures.out_after ∙ box_is r.result.refusal (drop r.result.at r.new.1.1.0) a.low a.high a.k c.if-refusal-eq0.true r.ensures.out_after;
     }
 
 pub returns-else-refusal-eq0 : goal.returns-else-refusal-eq0
@@ -22,6 +22,6 @@ returns-else-refusal-eq0 c =
     let p = c.put_refused in
     let r = c.put_corners-corners in
     let a = c.args in record {
-      upper_bound = p.ensures.0;
-      out_after = p.ensures.1 ∙ box_refused r.result.refusal (drop r.result.at r.new.1.1.0) a.low a.high a.k c.if-refusal-eq0.false r.ensures.1;
+      upper_bound = p.ensures.upper_bound;
+      out_after = p.ensures.out_after ∙ box_refused r.result.refusal (drop r.result.at r.new.1.1.0) a.low a.high a.k c.if-refusal-eq0.false r.ensures.out_after;
     }

@@ -12,8 +12,8 @@ returns c =
     let p = c.put_whole in
     let w = c.thousandths-w in
     let a = c.args in record {
-      at_le_at = p.ensures.0;
-      out_after = ap₂ settled c.earlier.ensures p.ensures.1
+      at_le_at = p.ensures.upper_bound;
+      out_after = ap₂ settled c.earlier.ensures p.ensures.out_after
           ∙ settles w.result.refusal a.rest.refusal _ (drop a.rest.at a.out.now)
           ∙ ap (λ z. spaced z (settled a.rest.refusal (drop a.rest.at a.out.now))) w.ensures;
     }

@@ -14,6 +14,6 @@ returns c =
     let h = c.put_point-second in
     let e = c.put in
     let a = c.args in record {
-      le_at = (omega (arith, l.ensures.0, h.ensures.0, e.ensures.0), omega (arith, l.ensures.0, h.ensures.0, e.ensures.0));
-      out_after = l.ensures.1 ∙ ap (corner a.low) (h.ensures.1 ∙ ap (λ t. corner a.high (due t)) (e.ensures.1 ∙ newline a.out.now 160 c.requires));
+      le_at = (omega (arith, l.ensures.at_le_at, h.ensures.at_le_at, e.ensures.text_value), omega (arith, l.ensures.at_le_at, h.ensures.at_le_at, e.ensures.text_value));
+      out_after = l.ensures.out_after ∙ ap (corner a.low) (h.ensures.out_after ∙ ap (λ t. corner a.high (due t)) (e.ensures.out_after ∙ newline a.out.now 160 c.requires));
     }

@@ -14,5 +14,5 @@ returns c =
     let a = c.before.before.before.before.before.before.before.before.before.args in
     record {
       upper_bound = (omega arith, omega arith);
-      out_after = p.ensures.1 ∙ ap (λ l. l ++ drop a.at a.out.now) (to_end d.new.1.0 (digits a.n) d.result 20 d.ensures.1.1 d.ensures.0);
+      out_after = p.ensures.out_after ∙ ap (λ l. l ++ drop a.at a.out.now) (to_end d.new.out (digits a.n) d.result 20 d.ensures.upper_bound.1 d.ensures.out_after);
     }

@@ -9,6 +9,6 @@ pub returns : goal.returns
 returns c =
     let p = c.put in
     record {
-      upper_bound = omega (arith, p.ensures.0);
-      out_after = p.ensures.1 ∙ empty_is c.args.out.now 160 c.requires;
+      upper_bound = omega (arith, p.ensures.text_value);
+      out_after = p.ensures.out_after ∙ empty_is c.args.out.now 160 c.requires;
     }

@@ -13,6 +13,6 @@ returns c =
     let y = c.put_corner-y in
     let z = c.put_corner-z in
     let a = c.args in record {
-      at_le_at = (omega (arith, x.ensures.0, y.ensures.0, z.ensures.0), omega (arith, x.ensures.0, y.ensures.0, z.ensures.0));
-      out_after = x.ensures.1 ∙ ap (spaced (thousandths a.p.x)) (y.ensures.1 ∙ ap (spaced (thousandths a.p.y)) z.ensures.1);
+      at_le_at = (omega (arith, x.ensures.at_le_at, y.ensures.at_le_at, z.ensures.at_le_at), omega (arith, x.ensures.at_le_at, y.ensures.at_le_at, z.ensures.at_le_at));
+      out_after = x.ensures.out_after ∙ ap (spaced (thousandths a.p.x)) (y.ensures.out_after ∙ ap (spaced (thousandths a.p.y)) z.ensures.out_after);
     }

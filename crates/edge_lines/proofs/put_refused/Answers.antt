@@ -13,8 +13,8 @@ unfolding bytes
 returns c =
     let first = c.put in
     let a = c.args in record {
-      upper_bound = omega (arith, first.ensures.0, c.put_digits-numbered.ensures.upper_bound, c.put-word.ensures.text_value, c.put_digits-counted.ensures.upper_bound, c.put-end.ensures.text_value);
-      out_after = first.ensures.1
+      upper_bound = omega (arith, first.ensures.text_value, c.put_digits-numbered.ensures.upper_bound, c.put-word.ensures.text_value, c.put_digits-counted.ensures.upper_bound, c.put-end.ensures.text_value);
+      out_after = first.ensures.out_after
           ∙ ap (λ t. bytes "refused " ++ t)
           (c.put_digits-numbered.ensures.out_after
           ∙ ap (λ t. digits a.number ++ t)

@@ -12,8 +12,8 @@ returns-then-is_negative-size c =
     let d = c.put_digits-digits in
     let a = c.args in
     let p = c.put in record {
-      upper_bound = (omega (arith, p.ensures.0), omega (arith, p.ensures.0));
-      out_after = p.ensures.1 ∙ ap (λ l. 32 ∷ 45 ∷ l) d.ensures.1 ∙ with_minus a.size (drop a.at a.out.now) a.is_negative c.if-is_negative-size.true;
+      upper_bound = (omega (arith, p.ensures.text_value), omega (arith, p.ensures.text_value));
+      out_after = p.ensures.out_after ∙ ap (λ l. 32 ∷ 45 ∷ l) d.ensures.out_after ∙ with_minus a.size (drop a.at a.out.now) a.is_negative c.if-is_negative-size.true;
     }
 
 pub returns-else-is_negative-size : goal.returns-else-is_negative-size
@@ -21,6 +21,6 @@ returns-else-is_negative-size c =
     let d = c.put_digits-digits in
     let a = c.args in
     let p = c.put-else-is_negative-size in record {
-      upper_bound = (omega (arith, p.ensures.0), omega (arith, p.ensures.0));
-      out_after = p.ensures.1 ∙ ap (λ l. 32 ∷ l) d.ensures.1 ∙ without a.size (drop a.at a.out.now) a.is_negative c.if-is_negative-size.false;
+      upper_bound = (omega (arith, p.ensures.text_value), omega (arith, p.ensures.text_value));
+      out_after = p.ensures.out_after ∙ ap (λ l. 32 ∷ l) d.ensures.out_after ∙ without a.size (drop a.at a.out.now) a.is_negative c.if-is_negative-size.false;
     }

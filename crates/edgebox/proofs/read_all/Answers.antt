@@ -20,13 +20,13 @@ pub loop-reads-preserved : goal.loop-reads-preserved
 loop-reads-preserved c =
     let t = c.take-turn in
     let l = c.loop-reads in
-    (search rules, stands_more l.reading t.result.reading _ l.invariant.1 t.ensures.0 (sym t.ensures.1 ∙ c.if-turn.true))
+    (search rules, stands_more l.reading t.result.reading _ l.invariant.1 t.ensures.took (sym t.ensures.is_due_value ∙ c.if-turn.true))
 
 pub returns-else-turn : goal.returns-else-turn
 returns-else-turn c =
     let t = c.take-turn in
     let l = c.loop-reads in
-    stands_last l.reading t.result.reading _ l.invariant.1 t.ensures.0
+    stands_last l.reading t.result.reading _ l.invariant.1 t.ensures.took
 
 pub returns : goal.returns
 returns c = stands_over c.loop-reads.reading c.loop-reads.invariant.1

@@ -8,6 +8,6 @@ unfolding taken_c
 returns c =
     let s = c.sweep_from-s in
     record {
-      refusal = simp (c.earlier.ensures, s.ensures.0, first_zero);
-      value = simp (c.widened_where-after.ensures, s.ensures.1);
+      refusal = simp (c.earlier.ensures, s.ensures.refusal, first_zero);
+      value = simp (c.widened_where-after.ensures, s.ensures.value);
     }

@@ -10,14 +10,8 @@ both_sines-v-requires c = yes (sym c.is_within.ensures ∙ c.if-is_within.true)
 
 pub returns-then-is_within : goal.returns-then-is_within
 unfolding sines_or_zeros
-returns-then-is_within c = (
-  sym (meets_none _ (sym c.is_within.ensures ∙ c.if-is_within.true)),
-  (simp (c.both_sines-v.ensures, sym c.is_within.ensures ∙ c.if-is_within.true), simp (c.both_sines-v.ensures, sym c.is_within.ensures ∙ c.if-is_within.true)),
-)
+returns-then-is_within c = record { refusal = sym (meets_none _ (sym c.is_within.ensures ∙ c.if-is_within.true)); sin = simp (c.both_sines-v.ensures, sym c.is_within.ensures ∙ c.if-is_within.true); cos = simp (c.both_sines-v.ensures, sym c.is_within.ensures ∙ c.if-is_within.true) }
 
 pub returns-else-is_within : goal.returns-else-is_within
 unfolding sines_or_zeros
-returns-else-is_within c = (
-  c.angle_refusal.ensures,
-  (simp (sym c.is_within.ensures ∙ c.if-is_within.false), simp (sym c.is_within.ensures ∙ c.if-is_within.false)),
-)
+returns-else-is_within c = record { refusal = c.angle_refusal.ensures; sin = simp (sym c.is_within.ensures ∙ c.if-is_within.false); cos = simp (sym c.is_within.ensures ∙ c.if-is_within.false) }
