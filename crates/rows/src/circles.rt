@@ -76,8 +76,8 @@ fn work_out(buf: &mut [f64], rim: Circle, turn: f64, n: u16, m: u16) -> u8
 }
 
 fn write_kept(row: &mut [f64], before: u8, rim: Circle, turn: f64, n: u16, m: u16) -> u8
-    requires fact_1 { 3 * m ≤ length row.old }
-    requires fact_2 { m ≤ 64 }
+    requires fits_row { 3 * m ≤ length row.old }
+    requires few { m ≤ 64 }
     ensures number { result ≡ number_of (points_due before (circle_at_c rim turn n) m) }
     ensures row { row.new ≡ row_after (points_due before (circle_at_c rim turn n) m) row.old }
 {

@@ -42,8 +42,8 @@ pub fn put(buf: &mut [f64], i: u16, p: Vec3)
 
 // The first k numbers of a buffer, copied to the start of a row.
 pub fn copy_part(buf: &[f64], row: &mut [f64], k: usize)
-    requires fact_1 { k ≤ length buf.now }
-    requires fact_2 { k ≤ length row.old }
+    requires in_buf { k ≤ length buf.now }
+    requires in_row { k ≤ length row.old }
     ensures { row.new ≡ take k buf.now ++ drop k row.old }
 {
     let mut i: usize = 0;

@@ -14,7 +14,7 @@ returns-then-refusal-eq0 c =
     let r = c.put_corners-corners in
     let a = c.args in record {
       upper_bound = omega (arith, p.ensures.text_value, r.ensures.le_at);
-      out_after = p.ensures.out_after ∙ box_is r.result.refusal (drop r.result.at r.new.1.1.0) a.low a.high a.k c.if-refusal-eq0.true r.ensures.out_after;
+      out_after = p.ensures.out_after ∙ box_is r.result.refusal (drop r.result.at r.new.out) a.low a.high a.k c.if-refusal-eq0.true r.ensures.out_after;
     }
 
 pub returns-else-refusal-eq0 : goal.returns-else-refusal-eq0
@@ -23,5 +23,5 @@ returns-else-refusal-eq0 c =
     let r = c.put_corners-corners in
     let a = c.args in record {
       upper_bound = p.ensures.upper_bound;
-      out_after = p.ensures.out_after ∙ box_refused r.result.refusal (drop r.result.at r.new.1.1.0) a.low a.high a.k c.if-refusal-eq0.false r.ensures.out_after;
+      out_after = p.ensures.out_after ∙ box_refused r.result.refusal (drop r.result.at r.new.out) a.low a.high a.k c.if-refusal-eq0.false r.ensures.out_after;
     }

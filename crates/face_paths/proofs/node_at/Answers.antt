@@ -8,6 +8,6 @@ unfolding node_at_c
 returns c =
     let p = c.place_at-q.ensures in
     record {
-      refusal = simp (c.node.ensures.refusal, c.earlier.ensures, p.0, p.1, first_assoc);
-      value = simp (c.node.ensures.value, p.1);
+      refusal = simp (c.node.ensures.refusal, c.earlier.ensures, p.refusal, p.value, first_assoc);
+      value = simp (c.node.ensures.value, p.value);
     }

@@ -11,6 +11,6 @@ returns c =
     let d = c.arc_path_of-c.ensures in
     let a = c.along-a.ensures in
     record {
-      refusal = simp (a.0, c.earlier.ensures, d.0, d.1, w.0, w.1, first_zero, first_assoc);
-      value = simp (a.1, d.1, w.1);
+      refusal = simp (a.refusal, c.earlier.ensures, d.refusal, d.value, w.refusal, w.value, first_zero, first_assoc);
+      value = simp (a.value, d.value, w.value);
     }

@@ -12,6 +12,6 @@ returns c =
     let r = c.curve_of-r.ensures in
     let w = c.revolve-w.ensures in
     record {
-      refusal = simp (a.0, c.earlier-2.ensures, c.earlier.ensures, n.0, n.1, d.0, d.1, r.0, r.1, w.0, w.1, first_zero, first_assoc);
-      value = simp (a.1, n.1, d.1, r.0, r.1, w.1);
+      refusal = simp (a.refusal, c.earlier-2.ensures, c.earlier.ensures, n.refusal, n.value, d.refusal, d.value, r.refusal, r.value, w.refusal, w.value, first_zero, first_assoc);
+      value = simp (a.value, n.value, d.value, r.refusal, r.value, w.value);
     }

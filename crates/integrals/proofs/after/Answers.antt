@@ -2,7 +2,7 @@ use borrow.Author.Rules.{rules}
 use Rattle.integrals.proofs.after.Goals as goal
 
 pub returns-in-Sums : goal.returns-in-Sums
-returns-in-Sums c = simp c.answer-1.given.1
+returns-in-Sums c = simp c.in-Sums.is
 
 pub returns-in-Refused : goal.returns-in-Refused
-returns-in-Refused c = simp c.answer-in-Refused-1.given.1
+returns-in-Refused c = simp c.in-Refused.is

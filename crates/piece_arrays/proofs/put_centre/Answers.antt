@@ -10,8 +10,8 @@ bounds-out c = simp length-set (omega arith)
 
 pub returns-in-Without : goal.returns-in-Without
 unfolding over of_centre
-returns-in-Without c = simp c.enum_told-1.given.1
+returns-in-Without c = simp c.in-Without.is
 
 pub returns-in-With : goal.returns-in-With
 unfolding over of_centre
-returns-in-With c = simp c.arc-1.given.1
+returns-in-With c = simp c.in-With.is

@@ -13,12 +13,12 @@ bounds-out-in-Wave c = simp length-set (omega arith)
 
 pub returns-in-Without : goal.returns-in-Without
 unfolding over of_trace
-returns-in-Without c = simp c.enum_told-1.given.1
+returns-in-Without c = simp c.in-Without.is
 
 pub returns-in-Wave : goal.returns-in-Wave
 unfolding over of_trace
-returns-in-Wave c = simp (c.t-1.given.1, c.trace-1.given.1)
+returns-in-Wave c = simp (c.in-Wave.is, c.in-With.is)
 
 pub returns-in-Meet : goal.returns-in-Meet
 unfolding of_trace
-returns-in-Meet c = simp (c.put_meet.ensures, c.t-in-With-1.given.1, c.trace-1.given.1)
+returns-in-Meet c = simp (c.put_meet.ensures, c.in-Meet.is, c.in-With.is)

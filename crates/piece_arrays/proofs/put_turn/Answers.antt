@@ -10,8 +10,8 @@ bounds-out c = simp length-set (omega arith)
 
 pub returns-in-Without : goal.returns-in-Without
 unfolding over of_turn
-returns-in-Without c = simp c.enum_told-1.given.1
+returns-in-Without c = simp c.in-Without.is
 
 pub returns-in-Angles : goal.returns-in-Angles
 unfolding over of_turn
-returns-in-Angles c = simp c.turn-1.given.1
+returns-in-Angles c = simp c.in-Angles.is

@@ -4,16 +4,16 @@ use Rattle.piece_arrays.proofs.trace_tag.Goals as goal
 
 pub returns-in-Without : goal.returns-in-Without
 unfolding trace_tag turn_tag
-returns-in-Without c = simp c.enum_told-1.given.1
+returns-in-Without c = simp c.in-Without.is
 
 pub returns-in-Wave : goal.returns-in-Wave
 unfolding trace_tag turn_tag
-returns-in-Wave c = simp (c.enum_told-in-Wave-1.given.1, c.trace-1.given.1)
+returns-in-Wave c = simp (c.in-Wave.is, c.in-With.is)
 
 pub returns-in-Without-k : goal.returns-in-Without-k
 unfolding trace_tag turn_tag
-returns-in-Without-k c = simp (c.enum_told-in-Without-k-1.given.1, c.t-1.given.1, c.trace-1.given.1)
+returns-in-Without-k c = simp (c.in-Without-k.is, c.in-Meet.is, c.in-With.is)
 
 pub returns-in-Angles : goal.returns-in-Angles
 unfolding trace_tag turn_tag
-returns-in-Angles c = simp (c.enum_told-in-Angles-1.given.1, c.t-1.given.1, c.trace-1.given.1)
+returns-in-Angles c = simp (c.in-Angles.is, c.in-Meet.is, c.in-With.is)

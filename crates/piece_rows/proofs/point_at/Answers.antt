@@ -8,6 +8,6 @@ unfolding inner_c
 returns c =
     let p = c.rolled_point-p.ensures in
     record {
-      refusal = simp (c.earlier.ensures, c.note.ensures, p.0, checked_rules);
-      value = simp p.1;
+      refusal = simp (c.earlier.ensures, c.note.ensures, p.refusal, checked_rules);
+      value = simp p.value;
     }

@@ -27,8 +27,8 @@ loop-i-preserved c =
     let f = inner_c c.args.g c.args.n in (
       omega arith,
       simp (put, held_length) now.invariant.1,
-      simp (c.earlier-r.ensures, point.0, now.invariant.2, up_to_refusal),
-      simp (put, point.1, now.invariant.3) (held_more c.args.stored f c.args.buf.now now.i (omega (arith, c.requires))),
+      simp (c.earlier-r.ensures, point.refusal, now.invariant.2, up_to_refusal),
+      simp (put, point.value, now.invariant.3) (held_more c.args.stored f c.args.buf.now now.i (omega (arith, c.requires))),
     )
 
 pub shape_of-buf : goal.shape_of-buf

@@ -13,11 +13,11 @@ returns-then-r-eq0 c =
     let f = inner_c start.g start.n in
     let none = c.if-r-eq0.true in
     let points = c.work_out-r.ensures in
-    let r : first 0 (up_to f start.m).refusal ≡ c.work_out-r.result = simp (zero_first, points.0) in
+    let r : first 0 (up_to f start.m).refusal ≡ c.work_out-r.result = simp (zero_first, points.refusal) in
     let due = some_due_lem 0 f start.m (r ∙ none) in
     record {
       number = simp (due, none);
-      row = simp (due, c.copy_part.ensures, points.1, flat_part point, flat_length);
+      row = simp (due, c.copy_part.ensures, points.points, flat_part point, flat_length);
     }
 
 pub returns-else-r-eq0 : goal.returns-else-r-eq0

@@ -15,9 +15,9 @@ returns-then-r-eq0 c =
     let m = c.less_one-m.ensures in
     let is = inners_are start.g start.n (length start.row.now) in
     record {
-      number = simp (is, w.0, m);
-      part = simp (is, m) (sym (part_length point _ _ _ _ (sym (simp m at w.0) ∙ c.if-r-eq0.true)));
-      rest = simp (is, w.1, m);
+      number = simp (is, w.number, m);
+      part = simp (is, m) (sym (part_length point _ _ _ _ (sym (simp m at w.number) ∙ c.if-r-eq0.true)));
+      rest = simp (is, w.row, m);
     }
 
 pub returns-else-r-eq0 : goal.returns-else-r-eq0
@@ -26,9 +26,9 @@ returns-else-r-eq0 c =
     let w = c.write-r.ensures in
     let m = c.less_one-m.ensures in
     let is = inners_are start.g start.n (length start.row.now) in
-    let number : c.write-r.result ≡ number_of (inners_due start.g start.n (length start.row.now)) = simp (is, w.0, m) in
+    let number : c.write-r.result ≡ number_of (inners_due start.g start.n (length start.row.now)) = simp (is, w.number, m) in
     record {
       number = number;
       part = sym (ap length (part_refused point (inners_due start.g start.n (length start.row.now)) (λ e. c.if-r-eq0.false (number ∙ e))));
-      rest = simp (is, w.1, m);
+      rest = simp (is, w.row, m);
     }

@@ -5,8 +5,8 @@ use Rattle.traces.proofs.meet_v.Goals as goal
 
 pub returns-in-Without : goal.returns-in-Without
 unfolding meet_c
-returns-in-Without c = simp (c.settle.ensures, c.meet_height.ensures.refusal, c.meet_height.ensures.value, c.enum_told-1.given.1, checked_rules)
+returns-in-Without c = simp (c.settle.ensures, c.meet_height.ensures.refusal, c.meet_height.ensures.value, c.in-Without.is, checked_rules)
 
 pub returns-in-Angles : goal.returns-in-Angles
 unfolding meet_c
-returns-in-Angles c = simp (c.enum_told-in-Angles-1.given.1, checked_rules)
+returns-in-Angles c = simp (c.in-Angles.is, checked_rules)

@@ -10,6 +10,6 @@ returns c =
     let p = c.per_turn-p.ensures in
     let s = c.sweep-s.ensures in
     record {
-      refusal = simp (c.earlier-2.ensures, c.earlier.ensures, c.note.ensures, n.0, p.0, p.1, s.0, s.1, first_assoc, cut_refusal);
-      value = unfold cut_c in simp (n.1, p.1, s.1);
+      refusal = simp (c.earlier-2.ensures, c.earlier.ensures, c.note.ensures, n.refusal, p.refusal, p.value, s.refusal, s.value, first_assoc, cut_refusal);
+      value = unfold cut_c in simp (n.value, p.value, s.value);
     }

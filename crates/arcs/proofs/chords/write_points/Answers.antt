@@ -17,9 +17,9 @@ returns-then-r-eq0 c =
     let d = c.radius_vector-d.ensures in
     let is : inners_due start.center start.axis start.radius start.from start.cut (length start.row.now) ≡ all_due _ _ _ _ = inners_are start.center start.axis start.radius start.from start.cut (length start.row.now) in
     record {
-      number = simp (is, w.0, m, q, d.0, d.1);
-      part = simp (is, m) (sym (part_length point _ _ _ _ (sym (simp (m, q, d.0, d.1) at w.0) ∙ c.if-r-eq0.true)));
-      rest = simp (is, w.1, m, q, d.0, d.1);
+      number = simp (is, w.number, m, q, d.refusal, d.value);
+      part = simp (is, m) (sym (part_length point _ _ _ _ (sym (simp (m, q, d.refusal, d.value) at w.number) ∙ c.if-r-eq0.true)));
+      rest = simp (is, w.row, m, q, d.refusal, d.value);
     }
 
 pub returns-else-r-eq0 : goal.returns-else-r-eq0
@@ -30,9 +30,9 @@ returns-else-r-eq0 c =
     let q = c.cross-quarter.ensures in
     let d = c.radius_vector-d.ensures in
     let is : inners_due start.center start.axis start.radius start.from start.cut (length start.row.now) ≡ all_due _ _ _ _ = inners_are start.center start.axis start.radius start.from start.cut (length start.row.now) in
-    let number : c.write-r.result ≡ number_of (inners_due start.center start.axis start.radius start.from start.cut (length start.row.now)) = simp (is, w.0, m, q, d.0, d.1) in
+    let number : c.write-r.result ≡ number_of (inners_due start.center start.axis start.radius start.from start.cut (length start.row.now)) = simp (is, w.number, m, q, d.refusal, d.value) in
     record {
       number = number;
       part = sym (ap length (part_refused point (inners_due start.center start.axis start.radius start.from start.cut (length start.row.now)) (λ e. c.if-r-eq0.false (number ∙ e))));
-      rest = simp (is, w.1, m, q, d.0, d.1);
+      rest = simp (is, w.row, m, q, d.refusal, d.value);
     }

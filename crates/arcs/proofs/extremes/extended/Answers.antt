@@ -15,6 +15,6 @@ returns c =
     let s = c.sweep_from-s.ensures in
     let u = c.minus-u.ensures in
     record {
-      refusal = simp (z.0, y.0, x.0, ends, s.0, s.1, u, points_refusal, first_assoc);
-      value = simp (z.1, y.1, x.1, to, from, s.1, u, points_value, boxes_rules);
+      refusal = simp (z.refusal, y.refusal, x.refusal, ends, s.refusal, s.value, u, points_refusal, first_assoc);
+      value = simp (z.value, y.value, x.value, to, from, s.value, u, points_value, boxes_rules);
     }

@@ -12,6 +12,6 @@ returns c =
     let first = c.with_candidate.ensures in
     let second = c.with_candidate-2.ensures in
     record {
-      refusal = simp (second.0, first.0, p, q, taken_refusal, both_refusal, first_assoc);
-      value = unfold both_c in simp (second.1, first.1, p, q, widened_append);
+      refusal = simp (second.refusal, first.refusal, p, q, taken_refusal, both_refusal, first_assoc);
+      value = unfold both_c in simp (second.value, first.value, p, q, widened_append);
     }

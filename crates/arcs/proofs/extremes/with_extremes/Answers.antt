@@ -13,8 +13,8 @@ returns-then-len c =
     let w₁ = c.across.ensures in
     let positive = c.if-len.true in
     record {
-      refusal = simp (both.0, c.note.ensures, len, w, w₁, extremes_refusal, simp (len, w, w₁) at positive, first_assoc);
-      value = unfold extremes_c in simp (both.1, len, w, w₁, simp (len, w, w₁) at positive);
+      refusal = simp (both.refusal, c.note.ensures, len, w, w₁, extremes_refusal, simp (len, w, w₁) at positive, first_assoc);
+      value = unfold extremes_c in simp (both.value, len, w, w₁, simp (len, w, w₁) at positive);
     }
 
 pub returns-else-len : goal.returns-else-len

@@ -4,8 +4,8 @@ use Rattle.c_shapes.proofs.curve_records.put_curve.Goals as goal
 
 pub returns-in-Arc : goal.returns-in-Arc
 unfolding with_curve
-returns-in-Arc c = simp (c.put_arc.ensures, c.c-1.given.1)
+returns-in-Arc c = simp (c.put_arc.ensures, c.in-Arc.is)
 
 pub returns-in-Rolled : goal.returns-in-Rolled
 unfolding with_curve
-returns-in-Rolled c = simp (c.put_piece.ensures, c.c-in-Rolled-1.given.1)
+returns-in-Rolled c = simp (c.put_piece.ensures, c.in-Rolled.is)

@@ -5,8 +5,8 @@ use Rattle.c_shapes.proofs.curve_records.put_tags.Goals as goal
 
 pub returns-in-Arc : goal.returns-in-Arc
 unfolding over curve_tags
-returns-in-Arc c = simp c.enum_told-1.given.1
+returns-in-Arc c = simp c.in-Arc.is
 
 pub returns-in-Rolled : goal.returns-in-Rolled
 unfolding over curve_tags
-returns-in-Rolled c = simp (c.trace_tag.ensures, c.arc_tag.ensures, c.c-1.given.1)
+returns-in-Rolled c = simp (c.trace_tag.ensures, c.arc_tag.ensures, c.in-Rolled.is)

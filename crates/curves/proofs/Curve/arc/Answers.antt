@@ -7,11 +7,11 @@ use Rattle.curves.proofs.Curve.arc.Goals as goal
 
 pub returns-in-Arc : goal.returns-in-Arc
 unfolding arc_due arc_of
-returns-in-Arc c = simp (c.if-n-eq0.true, passing_none, ← c.tried-n.ensures) (simp c.self-1.given.1)
+returns-in-Arc c = simp (c.if-n-eq0.true, passing_none, ← c.tried-n.ensures) (simp c.in-Arc.is)
 
 pub returns-in-Rolled : goal.returns-in-Rolled
 unfolding arc_due arc_of
-returns-in-Rolled c = simp (c.if-n-eq0.true, passing_none, ← c.tried-n.ensures) (simp c.enum_told-1.given.1)
+returns-in-Rolled c = simp (c.if-n-eq0.true, passing_none, ← c.tried-n.ensures) (simp c.in-Rolled.is)
 
 pub returns-else-n-eq0 : goal.returns-else-n-eq0
 unfolding arc_due arc_of

@@ -9,11 +9,11 @@ use Rattle.curves.proofs.Curve.extended.Goals as goal
 
 pub returns-in-Arc : goal.returns-in-Arc
 unfolding extend_due handed
-returns-in-Arc c = simp (c.settle.ensures, c.extended.ensures.refusal, c.extended.ensures.value, call_is, points_arc c.self-1.given.1, c.if-n-eq0.true, passing_none, ← c.earlier-n-2.ensures, ← c.fails.ensures, ← c.is_free.ensures, ← c.earlier-n.ensures, ← c.tried.ensures, ← c.fails-n.ensures, ← c.is_within3-2.ensures, ← c.is_within3.ensures, zero_first)
+returns-in-Arc c = simp (c.settle.ensures, c.extended.ensures.refusal, c.extended.ensures.value, call_is, points_arc c.in-Arc.is, c.if-n-eq0.true, passing_none, ← c.earlier-n-2.ensures, ← c.fails.ensures, ← c.is_free.ensures, ← c.earlier-n.ensures, ← c.tried.ensures, ← c.fails-n.ensures, ← c.is_within3-2.ensures, ← c.is_within3.ensures, zero_first)
 
 pub returns-in-Rolled : goal.returns-in-Rolled
 unfolding extend_due handed
-returns-in-Rolled c = simp (c.settle-in-Rolled.ensures, c.with_piece.ensures.refusal, c.with_piece.ensures.value, call_is, points_piece c.self-in-Rolled-1.given.1, c.if-n-eq0.true, passing_none, ← c.earlier-n-2.ensures, ← c.fails.ensures, ← c.is_free.ensures, ← c.earlier-n.ensures, ← c.tried.ensures, ← c.fails-n.ensures, ← c.is_within3-2.ensures, ← c.is_within3.ensures, zero_first)
+returns-in-Rolled c = simp (c.settle-in-Rolled.ensures, c.with_piece.ensures.refusal, c.with_piece.ensures.value, call_is, points_piece c.in-Rolled.is, c.if-n-eq0.true, passing_none, ← c.earlier-n-2.ensures, ← c.fails.ensures, ← c.is_free.ensures, ← c.earlier-n.ensures, ← c.tried.ensures, ← c.fails-n.ensures, ← c.is_within3-2.ensures, ← c.is_within3.ensures, zero_first)
 
 pub returns-else-n-eq0 : goal.returns-else-n-eq0
 unfolding extend_due handed

@@ -4,8 +4,8 @@ use Rattle.curves.proofs.Curve.tried.Goals as goal
 
 pub returns-in-Arc : goal.returns-in-Arc
 unfolding tests
-returns-in-Arc c = simp (c.fails.ensures, c.circle_within.ensures, c.self-1.given.1)
+returns-in-Arc c = simp (c.fails.ensures, c.circle_within.ensures, c.in-Arc.is)
 
 pub returns-in-Rolled : goal.returns-in-Rolled
 unfolding tests
-returns-in-Rolled c = simp (c.earlier.ensures, c.tried.ensures, c.fails-in-Rolled.ensures, c.is_within.ensures, c.self-in-Rolled-1.given.1)
+returns-in-Rolled c = simp (c.earlier.ensures, c.tried.ensures, c.fails-in-Rolled.ensures, c.is_within.ensures, c.in-Rolled.is)

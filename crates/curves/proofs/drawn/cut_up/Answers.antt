@@ -8,7 +8,7 @@ returns c =
     let n = c.chords_of-n.ensures in
     let x = c.run-x.ensures in
     record {
-      refusal = simp (c.earlier.ensures, n.0, x.0, x.1);
-      chords = simp (n.1, x.1);
-      piece = simp x.1;
+      refusal = simp (c.earlier.ensures, n.refusal, x.refusal, x.value);
+      chords = simp (n.value, x.value);
+      piece = simp x.value;
     }

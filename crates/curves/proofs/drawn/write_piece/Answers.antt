@@ -15,7 +15,7 @@ returns-then-r-eq0 c =
     let start = c.args in
     let none : (chords_of start.w start.chord).refusal ≡ 0 = sym c.cut_up-c.ensures.refusal ∙ c.if-r-eq0.true in
     simp (c.if-t-eq0.true, passing_none, ← c.tried-t.ensures, none, settled_none)
-    (simp (c.cut_up-c.ensures.chords.0, c.cut_up-c.ensures.chords.1) at points)
+    (simp (c.cut_up-c.ensures.chords, c.cut_up-c.ensures.piece) at points)
 
 pub returns-else-r-eq0 : goal.returns-else-r-eq0
 unfolding piece_due

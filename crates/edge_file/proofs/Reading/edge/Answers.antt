@@ -11,9 +11,9 @@ pub returns-in-Box : goal.returns-in-Box
 returns-in-Box c =
     let a = c.args in
     ap (λ k. record { seen = record { has_edge = true; bounds = c.bounds-1.given.0.0 }; number = k; status = status.Open }) c.next_number.ensures
-    ∙ ap (called_on a.self) (sym (ap widened_due c.bounds-1.given.1) ∙ c.extended.ensures)
+    ∙ ap (called_on a.self) (sym (ap widened_due c.in-Box.is) ∙ c.extended.ensures)
 
 pub returns-in-Refused : goal.returns-in-Refused
 returns-in-Refused c =
     let a = c.args in
-    c.stopped.ensures ∙ ap (called_on a.self) (sym (ap widened_due c.n-1.given.1) ∙ c.extended.ensures)
+    c.stopped.ensures ∙ ap (called_on a.self) (sym (ap widened_due c.in-Refused.is) ∙ c.extended.ensures)

@@ -9,7 +9,7 @@ returns-in-Open c =
     let a = c.args in
     record {
       upper_bound = c.refused_line.ensures.upper_bound;
-      out_after = c.refused_line.ensures.out_after ∙ if_open a.self c.enum_told-1.given.1;
+      out_after = c.refused_line.ensures.out_after ∙ if_open a.self c.in-Open.is;
     }
 
 pub returns-in-Refused : goal.returns-in-Refused
@@ -17,7 +17,7 @@ returns-in-Refused c =
     let a = c.args in
     record {
       upper_bound = c.refused_line-in-Refused.ensures.upper_bound;
-      out_after = c.refused_line-in-Refused.ensures.out_after ∙ if_refused a.self _ c.status-1.given.1;
+      out_after = c.refused_line-in-Refused.ensures.out_after ∙ if_refused a.self _ c.in-Refused.is;
     }
 
 pub returns-then-self : goal.returns-then-self
@@ -25,7 +25,7 @@ returns-then-self c =
     let a = c.args in
     record {
       upper_bound = c.box_line.ensures.upper_bound;
-      out_after = c.box_line.ensures.out_after ∙ if_box a.self c.enum_told-in-Ended-1.given.1 c.if-self.true;
+      out_after = c.box_line.ensures.out_after ∙ if_box a.self c.in-Ended.is c.if-self.true;
     }
 
 pub returns-else-self : goal.returns-else-self
@@ -33,5 +33,5 @@ returns-else-self c =
     let a = c.args in
     record {
       upper_bound = c.empty_line.ensures.upper_bound;
-      out_after = c.empty_line.ensures.out_after ∙ if_empty a.self c.enum_told-in-Ended-1.given.1 c.if-self.false;
+      out_after = c.empty_line.ensures.out_after ∙ if_empty a.self c.in-Ended.is c.if-self.false;
     }

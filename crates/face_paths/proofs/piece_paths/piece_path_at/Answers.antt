@@ -8,6 +8,6 @@ unfolding piece_path_at
 returns c =
     let g = c.rate_at-g.ensures in
     record {
-      refusal = simp (c.note-3.ensures, c.note-2.ensures, c.note.ensures, g.0, g.1, checked_rules);
-      value = simp g.1;
+      refusal = simp (c.note-3.ensures, c.note-2.ensures, c.note.ensures, g.refusal, g.value, checked_rules);
+      value = simp g.value;
     }

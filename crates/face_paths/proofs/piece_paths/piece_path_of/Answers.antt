@@ -11,6 +11,6 @@ returns c =
     let a = c.angle-a.ensures in
     let dots = c.dot-2.ensures in
     record {
-      refusal = simp (c.earlier-2.ensures, c.note-2.ensures, c.earlier.ensures, c.note.ensures, c.side.ensures, c.dot-z.ensures, c.minus.ensures, a.0, a.1, dots, c.dot.ensures, c.dot-d.ensures, checked_rules, vectors_rules, angles_rules);
-      value = simp (c.side.ensures, c.dot-z.ensures, c.minus.ensures, a.1, dots, c.dot.ensures, c.dot-d.ensures);
+      refusal = simp (c.earlier-2.ensures, c.note-2.ensures, c.earlier.ensures, c.note.ensures, c.side.ensures, c.dot-z.ensures, c.minus.ensures, a.refusal, a.value, dots, c.dot.ensures, c.dot-d.ensures, checked_rules, vectors_rules, angles_rules);
+      value = simp (c.side.ensures, c.dot-z.ensures, c.minus.ensures, a.value, dots, c.dot.ensures, c.dot-d.ensures);
     }

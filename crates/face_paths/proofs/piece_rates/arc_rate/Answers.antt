@@ -8,6 +8,6 @@ unfolding arc_c
 returns c =
     let w = c.swing-w.ensures in
     record {
-      refusal = simp (c.note-3.ensures, c.note-2.ensures, c.note.ensures, w.0, w.1, checked_rules);
-      value = simp w.1;
+      refusal = simp (c.note-3.ensures, c.note-2.ensures, c.note.ensures, w.refusal, w.value, checked_rules);
+      value = simp w.value;
     }

@@ -10,6 +10,6 @@ returns c =
     let p = c.placed-p.ensures in
     let m = c.motion-m.ensures in
     record {
-      refusal = simp (c.earlier-2.ensures, c.earlier.ensures, p.0, m.0, m.1.1.1.1.0, m.1.1.1.1.1, first_zero, point_refusal);
-      value = simp (p.1, m.1.0, m.1.1.1.1.1, point_value);
+      refusal = simp (c.earlier-2.ensures, c.earlier.ensures, p.refusal, m.ru, m.rq, m.q, first_zero, point_refusal);
+      value = simp (p.value, m.u, m.q, point_value);
     }

@@ -8,6 +8,6 @@ unfolding wave_c
 returns c =
     let h = c.v-h.ensures in
     record {
-      refusal = simp (c.earlier.ensures, c.note.ensures, h.0, checked_rules);
-      value = simp h.1;
+      refusal = simp (c.earlier.ensures, c.note.ensures, h.refusal, checked_rules);
+      value = simp h.value;
     }

@@ -13,6 +13,6 @@ returns c =
     let f₂ = c.patch-3.ensures in
     let t = c.terms-after.ensures in
     record {
-      refusal = simp (c.noted.ensures, c.earlier.ensures, b.0, t, f₂, f₁, f₀, b.1, node_refusal, node_value, first_assoc);
-      value = simp (t, f₂, f₁, f₀, b.1, node_value);
+      refusal = simp (c.noted.ensures, c.earlier.ensures, b.refusal, t, f₂, f₁, f₀, b.value, node_refusal, node_value, first_assoc);
+      value = simp (t, f₂, f₁, f₀, b.value, node_value);
     }

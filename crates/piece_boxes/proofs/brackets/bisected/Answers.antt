@@ -22,7 +22,7 @@ loop-i-preserved c =
     let at = c.loop-i in
     let d = done_more _ _ at.i at.r at.a at.invariant.1 in
     let m = c.motion-p.ensures in
-    (omega arith, simp (c.earlier-r.ensures, c.bisect-h.ensures.refusal, c.bisect-h.ensures.value, m.0, m.1.0, m.1.1.0, m.1.1.1.0) (rw (halve_refusal _ _ _ _, halve_value _ _ _ _) at d))
+    (omega arith, simp (c.earlier-r.ensures, c.bisect-h.ensures.refusal, c.bisect-h.ensures.value, m.ru, m.u, m.rv, m.v) (rw (halve_refusal _ _ _ _, halve_value _ _ _ _) at d))
 
 pub returns : goal.returns
 unfolding bisected_c

@@ -42,8 +42,8 @@ loop-k-preserved c =
       omega arith,
       simp length-set at.invariant.1,
       simp length-set at.invariant.2,
-      simp (c.earlier-r.ensures, c.earlier.ensures, c.end-e.ensures.refusal, c.end-e.ensures.value, c.sample-d.ensures.refusal, m.0, m.1.1.0) (rw (step_refusal _ _ _, step_value _ _ _, sample_refusal _ _) at d),
-      simp (c.sample-d.ensures.value, m.1.0, m.1.1.1.0) (rw (sample_value _ _) at s),
+      simp (c.earlier-r.ensures, c.earlier.ensures, c.end-e.ensures.refusal, c.end-e.ensures.value, c.sample-d.ensures.refusal, m.ru, m.rv) (rw (step_refusal _ _ _, step_value _ _ _, sample_refusal _ _) at d),
+      simp (c.sample-d.ensures.value, m.u, m.v) (rw (sample_value _ _) at s),
     )
 
 pub returns : goal.returns

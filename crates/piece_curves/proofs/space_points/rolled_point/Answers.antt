@@ -8,6 +8,6 @@ returns c =
     let p = c.point-x.ensures in
     let f = c.flat_point-f.ensures in
     record {
-      refusal = simp (c.earlier.ensures, p.0, f.0, f.1);
-      value = simp (p.1, f.1);
+      refusal = simp (c.earlier.ensures, p.refusal, f.refusal, f.value);
+      value = simp (p.value, f.value);
     }

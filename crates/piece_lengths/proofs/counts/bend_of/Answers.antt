@@ -25,7 +25,7 @@ loop-k-preserved c =
     let less = c.loop-k-test.true in
     let d = done_more _ _ at.k at.r at.a at.invariant.1 in
     let e = c.meet_second-d.ensures in
-    (omega (arith, less), simp (c.earlier-r.ensures, c.sample-s.ensures.refusal, c.sample-s.ensures.value, e.0, e.1) (rw (sample_refusal _ _ _, sample_value _ _ _) at d))
+    (omega (arith, less), simp (c.earlier-r.ensures, c.sample-s.ensures.refusal, c.sample-s.ensures.value, e.refusal, e.value) (rw (sample_refusal _ _ _, sample_value _ _ _) at d))
 
 pub returns : goal.returns
 unfolding bend_c

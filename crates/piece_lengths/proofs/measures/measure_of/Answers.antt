@@ -9,20 +9,20 @@ use Rattle.piece_lengths.proofs.measures.measure_of.Goals as goal
 pub returns-in-Straight : goal.returns-in-Straight
 unfolding measure_c
 returns-in-Straight c = record {
-      refusal = simp (c.segment.ensures.refusal, c.enum_told-1.given.1);
-      value = simp (c.segment.ensures.value, c.enum_told-1.given.1);
+      refusal = simp (c.segment.ensures.refusal, c.in-Straight.is);
+      value = simp (c.segment.ensures.value, c.in-Straight.is);
     }
 
 pub returns-in-Arc : goal.returns-in-Arc
 unfolding measure_c
 returns-in-Arc c = record {
-      refusal = simp (c.arc_measure.ensures.refusal, c.w-1.given.1);
-      value = simp (c.arc_measure.ensures.value, c.w-1.given.1);
+      refusal = simp (c.arc_measure.ensures.refusal, c.in-Arc.is);
+      value = simp (c.arc_measure.ensures.value, c.in-Arc.is);
     }
 
 pub returns-in-Wave : goal.returns-in-Wave
 returns-in-Wave c =
-    let same = wave_known c.args.r _ c.w-in-Wave-1.given.1 in
+    let same = wave_known c.args.r _ c.in-Wave.is in
     record {
       refusal = c.wave_traced.ensures.refusal ∙ ap (λ (q : Checked Measure). q.refusal) same;
       value = c.wave_traced.ensures.value ∙ ap (λ (q : Checked Measure). q.value) same;
@@ -30,7 +30,7 @@ returns-in-Wave c =
 
 pub returns-in-Meet : goal.returns-in-Meet
 returns-in-Meet c =
-    let same = meet_known c.args.r _ c.w-in-Meet-1.given.1 in
+    let same = meet_known c.args.r _ c.in-Meet.is in
     record {
       refusal = c.meet_traced.ensures.refusal ∙ ap (λ (q : Checked Measure). q.refusal) same;
       value = c.meet_traced.ensures.value ∙ ap (λ (q : Checked Measure). q.value) same;

@@ -9,6 +9,6 @@ unfolding at_c
 returns c =
     let m = c.motion-v.ensures in
     record {
-      refusal = simp (c.earlier-4.ensures, c.earlier-3.ensures, c.earlier-2.ensures, c.earlier.ensures, c.placed-q.ensures.refusal, c.pipe-x.ensures.refusal, c.pipe-x.ensures.value, m.0, m.1.1.0, m.1.1.1.1.0, m.1.1.1.1.1, first_zero, point_refusal);
-      value = simp (c.placed-q.ensures.value, c.pipe-x.ensures.value, m.1.0, m.1.1.1.0, m.1.1.1.1.1, point_value);
+      refusal = simp (c.earlier-4.ensures, c.earlier-3.ensures, c.earlier-2.ensures, c.earlier.ensures, c.placed-q.ensures.refusal, c.pipe-x.ensures.refusal, c.pipe-x.ensures.value, m.ru, m.rv, m.rq, m.q, first_zero, point_refusal);
+      value = simp (c.placed-q.ensures.value, c.pipe-x.ensures.value, m.u, m.v, m.q, point_value);
     }

@@ -4,8 +4,8 @@ use Rattle.pieces.proofs.parts.are_both.Goals as goal
 
 pub returns-in-Without : goal.returns-in-Without
 unfolding both
-returns-in-Without c = simp c.enum_told-1.given.1
+returns-in-Without c = simp c.in-Without.is
 
 pub returns-in-With : goal.returns-in-With
 unfolding both
-returns-in-With c = simp (c.is_traced.ensures, c.enum_told-in-With-1.given.1)
+returns-in-With c = simp (c.is_traced.ensures, c.in-With.is)

@@ -4,8 +4,8 @@ use Rattle.pieces.proofs.parts.is_traced.Goals as goal
 
 pub returns-in-Without : goal.returns-in-Without
 unfolding is_traced
-returns-in-Without c = simp c.enum_told-1.given.1
+returns-in-Without c = simp c.in-Without.is
 
 pub returns-in-With : goal.returns-in-With
 unfolding is_traced
-returns-in-With c = simp c.enum_told-in-With-1.given.1
+returns-in-With c = simp c.in-With.is

@@ -4,8 +4,8 @@ use Rattle.pieces.proofs.parts.turn_back.Goals as goal
 
 pub returns-in-Without : goal.returns-in-Without
 unfolding turn_back
-returns-in-Without c = simp c.enum_told-1.given.1
+returns-in-Without c = simp c.in-Without.is
 
 pub returns-in-Angles : goal.returns-in-Angles
 unfolding turn_back
-returns-in-Angles c = simp c.t-1.given.1
+returns-in-Angles c = simp c.in-Angles.is

@@ -24,8 +24,8 @@ loop-i-preserved c =
     let point = c.point_at-p.ensures in (
       omega arith,
       simp (put, length-set) now.invariant.1,
-      simp (c.earlier-r.ensures, point.0, now.invariant.2, up_to_refusal),
-      simp (put, point.1, now.invariant.3) (item_put points (circle_at_c c.args.rim c.args.turn c.args.n) c.args.buf.now now.i (omega (arith, c.requires))),
+      simp (c.earlier-r.ensures, point.refusal, now.invariant.2, up_to_refusal),
+      simp (put, point.value, now.invariant.3) (item_put points (circle_at_c c.args.rim c.args.turn c.args.n) c.args.buf.now now.i (omega (arith, c.requires))),
     )
 
 pub shape_of-buf : goal.shape_of-buf

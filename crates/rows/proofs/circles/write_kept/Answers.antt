@@ -13,11 +13,11 @@ returns-then-r-eq0 c =
     let f = circle_at_c start.rim start.turn start.n in
     let none = c.if-r-eq0.true in
     let points = c.work_out.ensures in
-    let r : c.earlier-r.result ≡ first start.before (up_to f start.m).refusal = simp (c.earlier-r.ensures, points.0) in
+    let r : c.earlier-r.result ≡ first start.before (up_to f start.m).refusal = simp (c.earlier-r.ensures, points.refusal) in
     let due = some_due_lem start.before f start.m (sym r ∙ none) in
     record {
       number = simp (due, none);
-      row = simp (due, c.copy_part.ensures, points.1, flat_part point, flat_length);
+      row = simp (due, c.copy_part.ensures, points.points, flat_part point, flat_length);
     }
 
 pub returns-else-r-eq0 : goal.returns-else-r-eq0

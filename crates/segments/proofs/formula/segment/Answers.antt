@@ -7,9 +7,9 @@ pub returns-then-k : goal.returns-then-k
 unfolding segment_c
 returns-then-k c =
     let s = c.slice-s.ensures in
-    let none = simp s.1 at c.if-k.true in
+    let none = simp s.value at c.if-k.true in
     record {
-      refusal = simp (s.0, none, first_zero);
+      refusal = simp (s.refusal, none, first_zero);
       value = simp none;
     }
 
@@ -17,10 +17,10 @@ pub returns-else-k : goal.returns-else-k
 unfolding segment_c bulge_c
 returns-else-k c =
     let s = c.slice-s.ensures in
-    let some = simp s.1 at c.if-k.false in
+    let some = simp s.value at c.if-k.false in
     let m = c.centroid-c.ensures in
     let a = c.added-a.ensures in
     record {
-      refusal = simp (c.earlier-else-k.ensures, c.earlier.ensures, a.0, m.0, m.1, s.0, s.1, some, first_zero, first_assoc);
-      value = simp (a.1, m.1, s.1, some);
+      refusal = simp (c.earlier-else-k.ensures, c.earlier.ensures, a.refusal, m.refusal, m.value, s.refusal, s.value, some, first_zero, first_assoc);
+      value = simp (a.value, m.value, s.value, some);
     }

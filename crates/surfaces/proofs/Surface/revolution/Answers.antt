@@ -7,19 +7,19 @@ use Rattle.surfaces.proofs.Surface.revolution.Goals as goal
 
 pub returns-in-Plane : goal.returns-in-Plane
 unfolding revolution_due cone_of
-returns-in-Plane c = simp (c.if-n-eq0.true, passing_none, ← c.tried-n.ensures) (simp c.enum_told-1.given.1)
+returns-in-Plane c = simp (c.if-n-eq0.true, passing_none, ← c.tried-n.ensures) (simp c.in-Plane.is)
 
 pub returns-in-Cylinder : goal.returns-in-Cylinder
 unfolding revolution_due cone_of
-returns-in-Cylinder c = simp (c.if-n-eq0.true, passing_none, ← c.tried-n.ensures) (simp c.self-1.given.1)
+returns-in-Cylinder c = simp (c.if-n-eq0.true, passing_none, ← c.tried-n.ensures) (simp c.in-Cylinder.is)
 
 pub returns-in-Cone : goal.returns-in-Cone
 unfolding revolution_due cone_of
-returns-in-Cone c = simp (c.if-n-eq0.true, passing_none, ← c.tried-n.ensures) (simp c.self-in-Cone-1.given.1)
+returns-in-Cone c = simp (c.if-n-eq0.true, passing_none, ← c.tried-n.ensures) (simp c.in-Cone.is)
 
 pub returns-in-Wall : goal.returns-in-Wall
 unfolding revolution_due cone_of
-returns-in-Wall c = simp (c.if-n-eq0.true, passing_none, ← c.tried-n.ensures) (simp c.enum_told-in-Wall-1.given.1)
+returns-in-Wall c = simp (c.if-n-eq0.true, passing_none, ← c.tried-n.ensures) (simp c.in-Wall.is)
 
 pub returns-else-n-eq0 : goal.returns-else-n-eq0
 unfolding revolution_due cone_of

@@ -4,8 +4,8 @@ use Rattle.traces.proofs.Trace.is_within_limit.Goals as goal
 
 pub returns-in-Wave : goal.returns-in-Wave
 unfolding trace_within
-returns-in-Wave c = simp (c.is_within_limit.ensures, c.self-1.given.1)
+returns-in-Wave c = simp (c.is_within_limit.ensures, c.in-Wave.is)
 
 pub returns-in-Meet : goal.returns-in-Meet
 unfolding trace_within
-returns-in-Meet c = simp (c.is_within_limit-in-Meet.ensures, c.self-in-Meet-1.given.1)
+returns-in-Meet c = simp (c.is_within_limit-in-Meet.ensures, c.in-Meet.is)

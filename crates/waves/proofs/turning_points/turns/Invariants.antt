@@ -15,7 +15,7 @@ use Rattle.waves.specs.TurningPointsLaws.{inside_value, inside_refusal, step_ref
 use Rattle.waves.proofs.turning_points.turns.Given as goal
 
 abbrev pub invariant-loop-k : goal.invariant-loop-k
-invariant-loop-k l = Remains (rest l.t TURNING_POINTS (record { l.k = l.k0; l.low = l.low0; l.high = l.high0 })) l.r (rest l.t l.left (record { l.k = l.k; l.low = l.low; l.high = l.high }))
+invariant-loop-k l = Remains (rest l.t TURNING_POINTS (record { k = l.k0; low = l.low0; high = l.high0 })) l.r (rest l.t l.left (record { k = l.k; low = l.low; high = l.high }))
 
 abbrev pub decreases-loop-k : goal.decreases-loop-k
 decreases-loop-k l = l.left

@@ -8,6 +8,6 @@ unfolding node_at_c
 returns c =
     let q = c.at-q.ensures in
     record {
-      refusal = simp (c.node.ensures.refusal, c.earlier.ensures, q.0, q.1, first_assoc);
-      value = simp (c.node.ensures.value, q.1);
+      refusal = simp (c.node.ensures.refusal, c.earlier.ensures, q.refusal, q.value, first_assoc);
+      value = simp (c.node.ensures.value, q.value);
     }

@@ -11,6 +11,6 @@ returns c =
     let n = c.quadrature_pieces-n.ensures in
     let r = c.run-x.ensures in
     record {
-      refusal = simp (a.0, c.earlier-2.ensures, c.earlier.ensures, v.0, v.1, n.0, n.1, r.0, r.1, first_zero, first_assoc);
-      value = simp (a.1, v.1, n.1, r.1);
+      refusal = simp (a.refusal, c.earlier-2.ensures, c.earlier.ensures, v.refusal, v.value, n.refusal, n.value, r.refusal, r.value, first_zero, first_assoc);
+      value = simp (a.value, v.value, n.value, r.value);
     }

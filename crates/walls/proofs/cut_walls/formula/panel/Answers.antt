@@ -19,7 +19,7 @@ pub loop-j-preserved : goal.loop-j-preserved
 loop-j-preserved c =
     let n = c.node_at-a.ensures in
     let more = met_more _ _ _ _ _ _ c.loop-j.invariant.1 in
-    (omega arith, simp (n.0, n.1, c.lies.ensures, c.lies_noted-n.ensures, first_assoc) more)
+    (omega arith, simp (n.refusal, n.value, c.lies.ensures, c.lies_noted-n.ensures, first_assoc) more)
 
 pub returns : goal.returns
 returns c =
