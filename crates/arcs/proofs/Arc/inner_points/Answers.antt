@@ -13,8 +13,8 @@ slice_bounds-result-end c =
     let start = c.args in
     let call = c.write_inner_points-w in
     let due = inner_points_due start.self start.from start.to start.chord (length start.row.now) in
-    let fits : 3 * call.result.points ≤ length call.new.1.1.1.1.0 = rw (call.ensures.part, call.ensures.rest) (part_fits point due start.row.now) in
-    sym (length-take-le (3 * call.result.points) call.new.1.1.1.1.0 fits)
+    let fits : 3 * call.result.points ≤ length call.new.row = rw (call.ensures.part, call.ensures.rest) (part_fits point due start.row.now) in
+    sym (length-take-le (3 * call.result.points) call.new.row fits)
 
 pub returns : goal.returns
 returns c =
