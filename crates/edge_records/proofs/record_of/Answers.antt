@@ -15,6 +15,11 @@ slice_bounds-edge_of-count c =
     let s = c.args.bytes.now in
     omega (arith, kind_long s kind.Arc (sym c.kind_of.ensures ∙ c.in-Arc.is))
 
+pub slice_bounds-edge_of-start : goal.slice_bounds-edge_of-start
+slice_bounds-edge_of-start c =
+    let s = c.args.bytes.now in
+    omega (arith, kind_long s kind.Arc (sym c.kind_of.ensures ∙ c.in-Arc.is))
+
 pub edge_of-requires : goal.edge_of-requires
 edge_of-requires c =
     let s = c.args.bytes.now in
