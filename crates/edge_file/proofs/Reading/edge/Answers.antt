@@ -10,7 +10,7 @@ use Rattle.edge_file.proofs.Reading.edge.Goals as goal
 pub returns-in-Box : goal.returns-in-Box
 returns-in-Box c =
     let a = c.args in
-    ap (λ k. record { seen = record { has_edge = true; bounds = c.bounds-1.given.0.0 }; number = k; status = status.Open }) c.next_number.ensures
+    ap (λ k. record { seen = record { has_edge = true; bounds = c.in-Box.bounds }; number = k; status = status.Open }) c.next_number.ensures
     ∙ ap (called_on a.self) (sym (ap widened_due c.in-Box.is) ∙ c.extended.ensures)
 
 pub returns-in-Refused : goal.returns-in-Refused
