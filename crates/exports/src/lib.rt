@@ -1,6 +1,7 @@
 // What Rust and C may call, by subject. Numbers pass as themselves, records as arrays of numbers; an answer is a refusal's number, 0 where
 // there is none, beside what is written. A refusal writes nothing.
 #![tactic(auto)]
+
 pub mod of_arcs;
 pub mod of_curves;
 pub mod of_developments;

@@ -15,8 +15,7 @@ use c_arrays::{store_number, store_vector, vec2_of, vec3_of};
 use profile_arcs::ProfileArc;
 
 // The vector of length 1 in the direction of v.
-#[unsafe(no_mangle)]
-pub extern "C" fn jr_unit(v: &[f64; 3], out: &mut [f64; 3]) -> u32
+pub fn jr_unit(v: &[f64; 3], out: &mut [f64; 3]) -> u32
     ensures number { result ≡ number_of (Directions.unit_due (vec3 v.now)) }
     ensures out { out.new ≡ after of_vec3 out.old (Directions.unit_due (vec3 v.now)) }
 {
@@ -26,8 +25,7 @@ pub extern "C" fn jr_unit(v: &[f64; 3], out: &mut [f64; 3]) -> u32
 
 // The angle turned about `center` from a to b: above 0 and at most 2 pi where `ccw`, else below 0
 // and at least -2 pi.
-#[unsafe(no_mangle)]
-pub extern "C" fn jr_profile_arc_turn(
+pub fn jr_profile_arc_turn(
     center: &[f64; 2],
     ccw: bool,
     a: &[f64; 2],
@@ -48,8 +46,7 @@ pub extern "C" fn jr_profile_arc_turn(
 }
 
 // The arc a run the other way: its axis turned round.
-#[unsafe(no_mangle)]
-pub extern "C" fn jr_arc_reversed(a: &[f64; 7], out: &mut [f64; 7]) -> u32
+pub fn jr_arc_reversed(a: &[f64; 7], out: &mut [f64; 7]) -> u32
     ensures number { result ≡ number_of (Arcs.reversed_due (arc a.now)) }
     ensures out { out.new ≡ after of_arc out.old (Arcs.reversed_due (arc a.now)) }
 {
@@ -59,13 +56,7 @@ pub extern "C" fn jr_arc_reversed(a: &[f64; 7], out: &mut [f64; 7]) -> u32
 
 // The angle of the arc a from `from` to `to`, above 0 and at most 2 pi: one point twice is a full
 // circle.
-#[unsafe(no_mangle)]
-pub extern "C" fn jr_arc_sweep(
-    a: &[f64; 7],
-    from: &[f64; 3],
-    to: &[f64; 3],
-    out: &mut [f64; 1],
-) -> u32
+pub fn jr_arc_sweep(a: &[f64; 7], from: &[f64; 3], to: &[f64; 3], out: &mut [f64; 1]) -> u32
     ensures number { result ≡ number_of (Arcs.sweep_due (arc a.now) (vec3 from.now) (vec3 to.now)) }
     ensures out { out.new ≡ after alone out.old (Arcs.sweep_due (arc a.now) (vec3 from.now) (vec3 to.now)) }
 {
@@ -76,8 +67,7 @@ pub extern "C" fn jr_arc_sweep(
 }
 
 // The point of the arc a at the angle t from `from`, counterclockwise about its axis.
-#[unsafe(no_mangle)]
-pub extern "C" fn jr_arc_at(a: &[f64; 7], from: &[f64; 3], t: f64, out: &mut [f64; 3]) -> u32
+pub fn jr_arc_at(a: &[f64; 7], from: &[f64; 3], t: f64, out: &mut [f64; 3]) -> u32
     ensures number { result ≡ number_of (Arcs.at_due (arc a.now) (vec3 from.now) t) }
     ensures out { out.new ≡ after of_vec3 out.old (Arcs.at_due (arc a.now) (vec3 from.now) t) }
 {
@@ -87,13 +77,7 @@ pub extern "C" fn jr_arc_at(a: &[f64; 7], from: &[f64; 3], t: f64, out: &mut [f6
 }
 
 // Widens the box b to hold the arc a from `from` to `to`.
-#[unsafe(no_mangle)]
-pub extern "C" fn jr_arc_extend_bounds(
-    a: &[f64; 7],
-    from: &[f64; 3],
-    to: &[f64; 3],
-    b: &mut [f64; 6],
-) -> u32
+pub fn jr_arc_extend_bounds(a: &[f64; 7], from: &[f64; 3], to: &[f64; 3], b: &mut [f64; 6]) -> u32
     ensures number { result ≡ number_of (Arcs.extend_due (arc a.now) (vec3 from.now) (vec3 to.now) (bounds b.old)) }
     ensures corners { b.new ≡ after of_bounds b.old (Arcs.extend_due (arc a.now) (vec3 from.now) (vec3 to.now) (bounds b.old)) }
 {
@@ -106,8 +90,7 @@ pub extern "C" fn jr_arc_extend_bounds(
 
 // How many chords a full turn of a circle takes to stay within `chord` of it, at least 12 and at
 // most 64.
-#[unsafe(no_mangle)]
-pub extern "C" fn jr_per_turn(radius: f64, chord: f64, out: &mut [f64; 1]) -> u32
+pub fn jr_per_turn(radius: f64, chord: f64, out: &mut [f64; 1]) -> u32
     ensures number { result ≡ number_of (Chords.per_turn_due radius chord) }
     ensures out { out.new ≡ after alone out.old (Chords.per_turn_due radius chord) }
 {
@@ -117,8 +100,7 @@ pub extern "C" fn jr_per_turn(radius: f64, chord: f64, out: &mut [f64; 1]) -> u3
 // Writes the points of the arc a strictly between `from` and `to`, for as many chords a turn as
 // `jr_per_turn` says, three numbers each from the start of `row`, and how many numbers these are to
 // `written`.
-#[unsafe(no_mangle)]
-pub extern "C" fn jr_arc_inner_points(
+pub fn jr_arc_inner_points(
     a: &[f64; 7],
     from: &[f64; 3],
     to: &[f64; 3],

@@ -17,8 +17,7 @@ use curves::drawn::write_inner_points;
 
 // The curve c run the other way, and to `tags` the tags `arc` and `trace` of a piece; an arc has
 // none.
-#[unsafe(no_mangle)]
-pub extern "C" fn jr_curve_reversed(
+pub fn jr_curve_reversed(
     c: &[f64; 27],
     kind: u32,
     arc: u32,
@@ -39,8 +38,7 @@ pub extern "C" fn jr_curve_reversed(
 }
 
 // The curve c moved by m, its tags as they were.
-#[unsafe(no_mangle)]
-pub extern "C" fn jr_curve_moved(
+pub fn jr_curve_moved(
     c: &[f64; 27],
     kind: u32,
     arc: u32,
@@ -61,14 +59,7 @@ pub extern "C" fn jr_curve_moved(
 }
 
 // The arc that the curve c is; 255 for a piece, which is none.
-#[unsafe(no_mangle)]
-pub extern "C" fn jr_curve_arc(
-    c: &[f64; 27],
-    kind: u32,
-    arc: u32,
-    trace: u32,
-    out: &mut [f64; 7],
-) -> u32
+pub fn jr_curve_arc(c: &[f64; 27], kind: u32, arc: u32, trace: u32, out: &mut [f64; 7]) -> u32
     ensures number { result ≡ number_of (tag_due (is_curve kind arc trace) (some_due (Curves.arc_due (curve c.now kind arc trace)))) }
     ensures out { out.new ≡ after of_arc out.old (tag_due (is_curve kind arc trace) (some_due (Curves.arc_due (curve c.now kind arc trace)))) }
 {
@@ -83,8 +74,7 @@ pub extern "C" fn jr_curve_arc(
 // Writes the points of the curve c strictly between `from` and `to`, a piece's between its own ends,
 // for chords within `chord` of it, three numbers each from the start of `row`, and how many numbers
 // these are to `written`.
-#[unsafe(no_mangle)]
-pub extern "C" fn jr_curve_inner_points(
+pub fn jr_curve_inner_points(
     c: &[f64; 27],
     kind: u32,
     arc: u32,
@@ -116,8 +106,7 @@ pub extern "C" fn jr_curve_inner_points(
 
 // Widens the box b to hold the curve c, an arc from `from` to `to`, a piece from its own start to
 // its end.
-#[unsafe(no_mangle)]
-pub extern "C" fn jr_curve_extend_bounds(
+pub fn jr_curve_extend_bounds(
     c: &[f64; 27],
     kind: u32,
     arc: u32,

@@ -11,8 +11,7 @@ use c_arrays::development_records::{development_of, store_development, store_unr
 use c_arrays::{store_vector, vec2_of, vec3_of};
 
 // The unit vector away from the axis of the development at u.
-#[unsafe(no_mangle)]
-pub extern "C" fn jr_development_radial(dev: &[f64; 10], u: f64, out: &mut [f64; 3]) -> u32
+pub fn jr_development_radial(dev: &[f64; 10], u: f64, out: &mut [f64; 3]) -> u32
     ensures number { result ≡ number_of (Developments.radial_due (development dev.now) u) }
     ensures out { out.new ≡ after of_vec3 out.old (Developments.radial_due (development dev.now) u) }
 {
@@ -21,13 +20,7 @@ pub extern "C" fn jr_development_radial(dev: &[f64; 10], u: f64, out: &mut [f64;
 }
 
 // The point at p = (u, v) of the development, r away from its axis.
-#[unsafe(no_mangle)]
-pub extern "C" fn jr_development_point(
-    dev: &[f64; 10],
-    p: &[f64; 2],
-    r: f64,
-    out: &mut [f64; 3],
-) -> u32
+pub fn jr_development_point(dev: &[f64; 10], p: &[f64; 2], r: f64, out: &mut [f64; 3]) -> u32
     ensures number { result ≡ number_of (Developments.point_due (development dev.now) (vec2 p.now) r) }
     ensures out { out.new ≡ after of_vec3 out.old (Developments.point_due (development dev.now) (vec2 p.now) r) }
 {
@@ -37,8 +30,7 @@ pub extern "C" fn jr_development_point(
 }
 
 // How the point at p of the development, r away from its axis, moves as p moves by d.
-#[unsafe(no_mangle)]
-pub extern "C" fn jr_development_along(
+pub fn jr_development_along(
     dev: &[f64; 10],
     p: &[f64; 2],
     d: &[f64; 2],
@@ -56,13 +48,7 @@ pub extern "C" fn jr_development_along(
 
 // The u and v of the point q in the development, u within half a turn of `near`, and the distance
 // of q from its axis.
-#[unsafe(no_mangle)]
-pub extern "C" fn jr_development_unroll(
-    dev: &[f64; 10],
-    q: &[f64; 3],
-    near: f64,
-    out: &mut [f64; 3],
-) -> u32
+pub fn jr_development_unroll(dev: &[f64; 10], q: &[f64; 3], near: f64, out: &mut [f64; 3]) -> u32
     ensures number { result ≡ number_of (Developments.unroll_due (development dev.now) (vec3 q.now) near) }
     ensures out { out.new ≡ after of_unrolled out.old (Developments.unroll_due (development dev.now) (vec3 q.now) near) }
 {
@@ -72,8 +58,7 @@ pub extern "C" fn jr_development_unroll(
 }
 
 // The development moved by m.
-#[unsafe(no_mangle)]
-pub extern "C" fn jr_development_moved(dev: &[f64; 10], m: &[f64; 12], out: &mut [f64; 10]) -> u32
+pub fn jr_development_moved(dev: &[f64; 10], m: &[f64; 12], out: &mut [f64; 10]) -> u32
     ensures number { result ≡ number_of (Developments.moved_due (development dev.now) (rigid m.now)) }
     ensures out { out.new ≡ after of_development out.old (Developments.moved_due (development dev.now) (rigid m.now)) }
 {

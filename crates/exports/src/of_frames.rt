@@ -9,8 +9,7 @@ use c_arrays::face_records::{cone_of, frame_of, store_frame};
 use c_arrays::{store_number, store_vector, vec3_of};
 
 // The frame of the cone c, the same whichever side the body is on.
-#[unsafe(no_mangle)]
-pub extern "C" fn jr_cone_frame(c: &[f64; 8], out: &mut [f64; 12]) -> u32
+pub fn jr_cone_frame(c: &[f64; 8], out: &mut [f64; 12]) -> u32
     ensures number { result ≡ number_of (Frames.frame_due (cone c.now true)) }
     ensures out { out.new ≡ after of_frame out.old (Frames.frame_due (cone c.now true)) }
 {
@@ -19,8 +18,7 @@ pub extern "C" fn jr_cone_frame(c: &[f64; 8], out: &mut [f64; 12]) -> u32
 }
 
 // The angle of the point p about the axis of the frame f, -pi to pi.
-#[unsafe(no_mangle)]
-pub extern "C" fn jr_frame_angle(f: &[f64; 12], p: &[f64; 3], out: &mut [f64; 1]) -> u32
+pub fn jr_frame_angle(f: &[f64; 12], p: &[f64; 3], out: &mut [f64; 1]) -> u32
     ensures number { result ≡ number_of (Frames.angle_due (frame f.now) (vec3 p.now)) }
     ensures out { out.new ≡ after alone out.old (Frames.angle_due (frame f.now) (vec3 p.now)) }
 {
@@ -30,14 +28,7 @@ pub extern "C" fn jr_frame_angle(f: &[f64; 12], p: &[f64; 3], out: &mut [f64; 1]
 }
 
 // The point at the angle theta about the axis of the frame f, z along it and r away from it.
-#[unsafe(no_mangle)]
-pub extern "C" fn jr_frame_point(
-    f: &[f64; 12],
-    theta: f64,
-    z: f64,
-    r: f64,
-    out: &mut [f64; 3],
-) -> u32
+pub fn jr_frame_point(f: &[f64; 12], theta: f64, z: f64, r: f64, out: &mut [f64; 3]) -> u32
     ensures number { result ≡ number_of (Frames.point_due (frame f.now) theta z r) }
     ensures out { out.new ≡ after of_vec3 out.old (Frames.point_due (frame f.now) theta z r) }
 {

@@ -7,8 +7,7 @@ ghost use Rattle.exports.specs.Layout as Layout;
 const LAYOUT: u32 = 1;
 
 // The number of this layout of arrays and answers, which is also in the name, so that a program made for another one does not link.
-#[unsafe(no_mangle)]
-pub extern "C" fn jr_layout_1() -> u32
+pub fn jr_layout_1() -> u32
     ensures { result ≡ Layout.LAYOUT }
 {
     LAYOUT

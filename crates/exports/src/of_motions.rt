@@ -10,8 +10,7 @@ use c_arrays::{store_vector, vec3_of};
 use motions::Rigid;
 
 // The rotation by the angle about an axis of any length through the origin.
-#[unsafe(no_mangle)]
-pub extern "C" fn jr_rigid_rotation(axis: &[f64; 3], angle: f64, out: &mut [f64; 12]) -> u32
+pub fn jr_rigid_rotation(axis: &[f64; 3], angle: f64, out: &mut [f64; 12]) -> u32
     ensures number { result ≡ number_of (Motions.rotation_due (vec3 axis.now) angle) }
     ensures out { out.new ≡ after of_rigid out.old (Motions.rotation_due (vec3 axis.now) angle) }
 {
@@ -21,8 +20,7 @@ pub extern "C" fn jr_rigid_rotation(axis: &[f64; 3], angle: f64, out: &mut [f64;
 
 // The motion from the coordinates of a frame, its axes x, y and z at `origin`, to those of the
 // world.
-#[unsafe(no_mangle)]
-pub extern "C" fn jr_rigid_frame(
+pub fn jr_rigid_frame(
     origin: &[f64; 3],
     x: &[f64; 3],
     y: &[f64; 3],
@@ -40,8 +38,7 @@ pub extern "C" fn jr_rigid_frame(
 }
 
 // The point p moved by m.
-#[unsafe(no_mangle)]
-pub extern "C" fn jr_rigid_apply(m: &[f64; 12], p: &[f64; 3], out: &mut [f64; 3]) -> u32
+pub fn jr_rigid_apply(m: &[f64; 12], p: &[f64; 3], out: &mut [f64; 3]) -> u32
     ensures number { result ≡ number_of (Motions.apply_due (rigid m.now) (vec3 p.now)) }
     ensures out { out.new ≡ after of_vec3 out.old (Motions.apply_due (rigid m.now) (vec3 p.now)) }
 {
@@ -51,8 +48,7 @@ pub extern "C" fn jr_rigid_apply(m: &[f64; 12], p: &[f64; 3], out: &mut [f64; 3]
 }
 
 // The direction p turned by m, whose shift is left out.
-#[unsafe(no_mangle)]
-pub extern "C" fn jr_rigid_apply_vector(m: &[f64; 12], p: &[f64; 3], out: &mut [f64; 3]) -> u32
+pub fn jr_rigid_apply_vector(m: &[f64; 12], p: &[f64; 3], out: &mut [f64; 3]) -> u32
     ensures number { result ≡ number_of (Motions.apply_vector_due (rigid m.now) (vec3 p.now)) }
     ensures out { out.new ≡ after of_vec3 out.old (Motions.apply_vector_due (rigid m.now) (vec3 p.now)) }
 {

@@ -14,56 +14,49 @@ use c_arrays::{store_number, store_sines};
 use libm::{atan2, roots, sincos};
 
 // The square root of x, rounded once; a NaN where x is below 0.
-#[unsafe(no_mangle)]
-pub extern "C" fn jr_sqrt(x: f64) -> f64
+pub fn jr_sqrt(x: f64) -> f64
     ensures { result ≡ Root.sqrt binary64 x }
 {
     rounding::sqrt(x)
 }
 
 // The least whole number that is not below x.
-#[unsafe(no_mangle)]
-pub extern "C" fn jr_ceil(x: f64) -> f64
+pub fn jr_ceil(x: f64) -> f64
     ensures { result ≡ Whole.ceil binary64 x }
 {
     rounding::ceil(x)
 }
 
 // The whole number nearest to x, halves away from 0.
-#[unsafe(no_mangle)]
-pub extern "C" fn jr_round(x: f64) -> f64
+pub fn jr_round(x: f64) -> f64
     ensures { result ≡ Whole.round_away binary64 x }
 {
     rounding::round(x)
 }
 
 // The angle of the point (x, y) in radians, -pi to pi, by libm's atan2 of y and x.
-#[unsafe(no_mangle)]
-pub extern "C" fn jr_atan2(y: f64, x: f64) -> f64
+pub fn jr_atan2(y: f64, x: f64) -> f64
     ensures { result ≡ Arctangent.atan2 y x }
 {
     atan2::atan2(y, x)
 }
 
 // The angle whose cosine is x, 0 to pi, by libm's acos; a NaN where x is not in -1 to 1.
-#[unsafe(no_mangle)]
-pub extern "C" fn jr_acos(x: f64) -> f64
+pub fn jr_acos(x: f64) -> f64
     ensures { result ≡ Roots.acos x }
 {
     roots::acos(x)
 }
 
 // The length of (x, y), by libm's hypot.
-#[unsafe(no_mangle)]
-pub extern "C" fn jr_hypot(x: f64, y: f64) -> f64
+pub fn jr_hypot(x: f64, y: f64) -> f64
     ensures { result ≡ Roots.hypot x y }
 {
     roots::hypot(x, y)
 }
 
 // The sine of the angle x.
-#[unsafe(no_mangle)]
-pub extern "C" fn jr_sin(x: f64, out: &mut [f64; 1]) -> u32
+pub fn jr_sin(x: f64, out: &mut [f64; 1]) -> u32
     ensures number { result ≡ number_of (answered (Circle.sin_c x)) }
     ensures out { out.new ≡ after alone out.old (answered (Circle.sin_c x)) }
 {
@@ -71,8 +64,7 @@ pub extern "C" fn jr_sin(x: f64, out: &mut [f64; 1]) -> u32
 }
 
 // The sine and the cosine of the angle x.
-#[unsafe(no_mangle)]
-pub extern "C" fn jr_sincos(x: f64, out: &mut [f64; 2]) -> u32
+pub fn jr_sincos(x: f64, out: &mut [f64; 2]) -> u32
     ensures number { result ≡ number_of (answered (Circle.sincos_c x)) }
     ensures out { out.new ≡ after of_sines out.old (answered (Circle.sincos_c x)) }
 {

@@ -15,8 +15,7 @@ use piece_arrays::{is_piece, piece_of};
 
 // The box of the piece w in its development: the least and the greatest u, the least and the
 // greatest v; a straight piece's points, t from 0 to 1, lie at most 2^-33 mm outside it.
-#[unsafe(no_mangle)]
-pub extern "C" fn jr_piece_uv_box(w: &[f64; 26], arc: u32, trace: u32, out: &mut [f64; 4]) -> u32
+pub fn jr_piece_uv_box(w: &[f64; 26], arc: u32, trace: u32, out: &mut [f64; 4]) -> u32
     ensures number { result ≡ number_of (tag_due (is_piece arc trace) (Pieces.uv_box_due (piece w.now arc trace))) }
     ensures out { out.new ≡ after of_box out.old (tag_due (is_piece arc trace) (Pieces.uv_box_due (piece w.now arc trace))) }
 {
@@ -29,8 +28,7 @@ pub extern "C" fn jr_piece_uv_box(w: &[f64; 26], arc: u32, trace: u32, out: &mut
 }
 
 // How many chords through the piece w stay within `deviation` of it in its development.
-#[unsafe(no_mangle)]
-pub extern "C" fn jr_piece_polyline(
+pub fn jr_piece_polyline(
     w: &[f64; 26],
     arc: u32,
     trace: u32,
@@ -49,8 +47,7 @@ pub extern "C" fn jr_piece_polyline(
 }
 
 // The piece w run the other way, and to `tags` its tags `arc` and `trace`.
-#[unsafe(no_mangle)]
-pub extern "C" fn jr_piece_reversed(
+pub fn jr_piece_reversed(
     w: &[f64; 26],
     arc: u32,
     trace: u32,
@@ -71,14 +68,7 @@ pub extern "C" fn jr_piece_reversed(
 
 // The point (u, v) of the piece w at t, which is 0 at its start and 1 at its end, and its
 // derivative.
-#[unsafe(no_mangle)]
-pub extern "C" fn jr_piece_at(
-    w: &[f64; 26],
-    arc: u32,
-    trace: u32,
-    t: f64,
-    out: &mut [f64; 4],
-) -> u32
+pub fn jr_piece_at(w: &[f64; 26], arc: u32, trace: u32, t: f64, out: &mut [f64; 4]) -> u32
     ensures number { result ≡ number_of (tag_due (is_piece arc trace) (Pieces.at_due (piece w.now arc trace) t)) }
     ensures out { out.new ≡ after of_place out.old (tag_due (is_piece arc trace) (Pieces.at_due (piece w.now arc trace) t)) }
 {
@@ -91,14 +81,7 @@ pub extern "C" fn jr_piece_at(
 }
 
 // The second derivative of the piece w at t.
-#[unsafe(no_mangle)]
-pub extern "C" fn jr_piece_second(
-    w: &[f64; 26],
-    arc: u32,
-    trace: u32,
-    t: f64,
-    out: &mut [f64; 2],
-) -> u32
+pub fn jr_piece_second(w: &[f64; 26], arc: u32, trace: u32, t: f64, out: &mut [f64; 2]) -> u32
     ensures number { result ≡ number_of (tag_due (is_piece arc trace) (Pieces.second_due (piece w.now arc trace) t)) }
     ensures out { out.new ≡ after of_vec2 out.old (tag_due (is_piece arc trace) (Pieces.second_due (piece w.now arc trace) t)) }
 {
@@ -112,8 +95,7 @@ pub extern "C" fn jr_piece_second(
 
 // The unit normal of the wall over the piece w at p, r away from the axis: to the left of the way
 // that the piece runs.
-#[unsafe(no_mangle)]
-pub extern "C" fn jr_piece_normal(
+pub fn jr_piece_normal(
     w: &[f64; 26],
     arc: u32,
     trace: u32,
@@ -134,8 +116,7 @@ pub extern "C" fn jr_piece_normal(
 }
 
 // The radius of the piece w, 0 where it is no arc, the angle that it turns, and its length.
-#[unsafe(no_mangle)]
-pub extern "C" fn jr_piece_measure(w: &[f64; 26], arc: u32, trace: u32, out: &mut [f64; 3]) -> u32
+pub fn jr_piece_measure(w: &[f64; 26], arc: u32, trace: u32, out: &mut [f64; 3]) -> u32
     ensures number { result ≡ number_of (tag_due (is_piece arc trace) (Pieces.measure_due (piece w.now arc trace))) }
     ensures out { out.new ≡ after of_measure out.old (tag_due (is_piece arc trace) (Pieces.measure_due (piece w.now arc trace))) }
 {
@@ -149,13 +130,7 @@ pub extern "C" fn jr_piece_measure(w: &[f64; 26], arc: u32, trace: u32, out: &mu
 
 // How many parts the piece w is integrated over, none of which turns more than an eighth of a
 // circle.
-#[unsafe(no_mangle)]
-pub extern "C" fn jr_piece_quadrature_pieces(
-    w: &[f64; 26],
-    arc: u32,
-    trace: u32,
-    out: &mut [u64; 1],
-) -> u32
+pub fn jr_piece_quadrature_pieces(w: &[f64; 26], arc: u32, trace: u32, out: &mut [u64; 1]) -> u32
     ensures number { result ≡ number_of (tag_due (is_piece arc trace) (Pieces.quadrature_due (piece w.now arc trace))) }
     ensures out { out.new ≡ after alone out.old (tag_due (is_piece arc trace) (Pieces.quadrature_due (piece w.now arc trace))) }
 {
@@ -168,8 +143,7 @@ pub extern "C" fn jr_piece_quadrature_pieces(
 }
 
 // How many chords within `chord` of it draw the piece w, r away from the axis.
-#[unsafe(no_mangle)]
-pub extern "C" fn jr_piece_chords(
+pub fn jr_piece_chords(
     w: &[f64; 26],
     arc: u32,
     trace: u32,

@@ -19,8 +19,7 @@ use walls::cut_walls;
 
 // Corrects the sums `acc` of a plane face, o being their point and n the face's unit normal, for an
 // edge that is no chord from u to v but the arc a about k.
-#[unsafe(no_mangle)]
-pub extern "C" fn jr_segment(
+pub fn jr_segment(
     acc: &mut [f64; 8],
     a: &[f64; 7],
     k: &[f64; 3],
@@ -46,8 +45,7 @@ pub extern "C" fn jr_segment(
 }
 
 // Opens the running sums of a face on the cone c, o being their point.
-#[unsafe(no_mangle)]
-pub extern "C" fn jr_revolution_open(c: &[f64; 8], o: &[f64; 3], running: &mut [f64; 8]) -> u32
+pub fn jr_revolution_open(c: &[f64; 8], o: &[f64; 3], running: &mut [f64; 8]) -> u32
     ensures number { result ≡ number_of (Revolutions.open_due (cone c.now true) (vec3 o.now)) }
     ensures running { running.new ≡ after of_sums running.old (Revolutions.open_due (cone c.now true) (vec3 o.now)) }
 {
@@ -58,8 +56,7 @@ pub extern "C" fn jr_revolution_open(c: &[f64; 8], o: &[f64; 3], running: &mut [
 
 // Adds the arc a from u to v, an edge of the face on the cone c, to the running sums, o being their
 // point.
-#[unsafe(no_mangle)]
-pub extern "C" fn jr_revolution_add_arc(
+pub fn jr_revolution_add_arc(
     c: &[f64; 8],
     o: &[f64; 3],
     a: &[f64; 7],
@@ -80,8 +77,7 @@ pub extern "C" fn jr_revolution_add_arc(
 }
 
 // Adds the piece w, an edge of the face on the cone c, to the running sums, o being their point.
-#[unsafe(no_mangle)]
-pub extern "C" fn jr_revolution_add_piece(
+pub fn jr_revolution_add_piece(
     c: &[f64; 8],
     o: &[f64; 3],
     w: &[f64; 26],
@@ -105,8 +101,7 @@ pub extern "C" fn jr_revolution_add_piece(
 
 // Adds the running sums of a face on the cone c, with the body inside where `convex`, to the sums
 // `acc`.
-#[unsafe(no_mangle)]
-pub extern "C" fn jr_revolution_close(
+pub fn jr_revolution_close(
     c: &[f64; 8],
     convex: bool,
     running: &[f64; 8],
@@ -123,8 +118,7 @@ pub extern "C" fn jr_revolution_close(
 
 // Adds the wall over the piece w, from r0 to r1 away from the axis, to the sums `acc`, o being
 // their point.
-#[unsafe(no_mangle)]
-pub extern "C" fn jr_wall(
+pub fn jr_wall(
     acc: &mut [f64; 8],
     w: &[f64; 26],
     arc: u32,

@@ -14,8 +14,7 @@ use c_arrays::{UNKNOWN_TAG, store_vector, vec3_of};
 use c_shapes::surface_records::{is_surface, store_cone, store_plane, store_surface, surface_of};
 
 // The plane that the surface s is, its origin and its normal; 255 where it is none.
-#[unsafe(no_mangle)]
-pub extern "C" fn jr_surface_plane(
+pub fn jr_surface_plane(
     s: &[f64; 26],
     kind: u32,
     convex: bool,
@@ -35,8 +34,7 @@ pub extern "C" fn jr_surface_plane(
 }
 
 // The cone that the surface s is, a cylinder with slope 0; 255 where it is neither.
-#[unsafe(no_mangle)]
-pub extern "C" fn jr_surface_revolution(
+pub fn jr_surface_revolution(
     s: &[f64; 26],
     kind: u32,
     convex: bool,
@@ -56,8 +54,7 @@ pub extern "C" fn jr_surface_revolution(
 }
 
 // The surface s moved by m, its tags as they were.
-#[unsafe(no_mangle)]
-pub extern "C" fn jr_surface_moved(
+pub fn jr_surface_moved(
     s: &[f64; 26],
     kind: u32,
     convex: bool,
@@ -79,8 +76,7 @@ pub extern "C" fn jr_surface_moved(
 }
 
 // The unit normal of the surface s at its point p, out of the body.
-#[unsafe(no_mangle)]
-pub extern "C" fn jr_surface_normal_at(
+pub fn jr_surface_normal_at(
     s: &[f64; 26],
     kind: u32,
     convex: bool,

@@ -14,8 +14,7 @@ use c_arrays::trace_records::{
 };
 
 // The v of the wave w at u and its first and second derivatives, the neutral radius being n.
-#[unsafe(no_mangle)]
-pub extern "C" fn jr_wave_at(w: &[f64; 3], u: f64, n: f64, out: &mut [f64; 3]) -> u32
+pub fn jr_wave_at(w: &[f64; 3], u: f64, n: f64, out: &mut [f64; 3]) -> u32
     ensures number { result ≡ number_of (Waves.at_due (wave w.now) u n) }
     ensures out { out.new ≡ after of_jet out.old (Waves.at_due (wave w.now) u n) }
 {
@@ -24,8 +23,7 @@ pub extern "C" fn jr_wave_at(w: &[f64; 3], u: f64, n: f64, out: &mut [f64; 3]) -
 }
 
 // The least and the greatest v of the wave w from u0 to u1, the neutral radius being n.
-#[unsafe(no_mangle)]
-pub extern "C" fn jr_wave_range(w: &[f64; 3], u0: f64, u1: f64, n: f64, out: &mut [f64; 2]) -> u32
+pub fn jr_wave_range(w: &[f64; 3], u0: f64, u1: f64, n: f64, out: &mut [f64; 2]) -> u32
     ensures number { result ≡ number_of (Waves.range_due (wave w.now) u0 u1 n) }
     ensures out { out.new ≡ after of_span out.old (Waves.range_due (wave w.now) u0 u1 n) }
 {
@@ -35,14 +33,7 @@ pub extern "C" fn jr_wave_range(w: &[f64; 3], u0: f64, u1: f64, n: f64, out: &mu
 
 // The point of the meet m on the generatrix at phi and its first and second derivatives, the
 // neutral radius being n.
-#[unsafe(no_mangle)]
-pub extern "C" fn jr_meet_point(
-    m: &[f64; 10],
-    turn: u32,
-    phi: f64,
-    n: f64,
-    out: &mut [f64; 9],
-) -> u32
+pub fn jr_meet_point(m: &[f64; 10], turn: u32, phi: f64, n: f64, out: &mut [f64; 9]) -> u32
     ensures number { result ≡ number_of (tag_due (is_turn turn) (Meets.point_due (meet m.now turn) phi n)) }
     ensures out { out.new ≡ after of_points out.old (tag_due (is_turn turn) (Meets.point_due (meet m.now turn) phi n)) }
 {
@@ -56,8 +47,7 @@ pub extern "C" fn jr_meet_point(
 
 // The v of the trace t at u, the neutral radius being n; 255 for a meet with `turn`, which has
 // none.
-#[unsafe(no_mangle)]
-pub extern "C" fn jr_trace_v(t: &[f64; 10], kind: u32, u: f64, n: f64, out: &mut [f64; 1]) -> u32
+pub fn jr_trace_v(t: &[f64; 10], kind: u32, u: f64, n: f64, out: &mut [f64; 1]) -> u32
     ensures number { result ≡ number_of (tag_due (is_trace kind) (some_due (Traces.v_due (trace_of t.now kind) u n))) }
     ensures out { out.new ≡ after alone out.old (tag_due (is_trace kind) (some_due (Traces.v_due (trace_of t.now kind) u n))) }
 {

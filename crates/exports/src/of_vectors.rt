@@ -7,8 +7,7 @@ ghost use Rattle.c_arrays.specs.Records.{vec3, alone, of_vec3, after};
 use c_arrays::{store_index, store_number, store_vector, vec3_of};
 
 // The scalar product of a and b.
-#[unsafe(no_mangle)]
-pub extern "C" fn jr_vec3_dot(a: &[f64; 3], b: &[f64; 3], out: &mut [f64; 1]) -> u32
+pub fn jr_vec3_dot(a: &[f64; 3], b: &[f64; 3], out: &mut [f64; 1]) -> u32
     ensures number { result ≡ number_of (Vectors.dot_due (vec3 a.now) (vec3 b.now)) }
     ensures out { out.new ≡ after alone out.old (Vectors.dot_due (vec3 a.now) (vec3 b.now)) }
 {
@@ -18,8 +17,7 @@ pub extern "C" fn jr_vec3_dot(a: &[f64; 3], b: &[f64; 3], out: &mut [f64; 1]) ->
 }
 
 // The vector product of a and b.
-#[unsafe(no_mangle)]
-pub extern "C" fn jr_vec3_cross(a: &[f64; 3], b: &[f64; 3], out: &mut [f64; 3]) -> u32
+pub fn jr_vec3_cross(a: &[f64; 3], b: &[f64; 3], out: &mut [f64; 3]) -> u32
     ensures number { result ≡ number_of (Vectors.cross_due (vec3 a.now) (vec3 b.now)) }
     ensures out { out.new ≡ after of_vec3 out.old (Vectors.cross_due (vec3 a.now) (vec3 b.now)) }
 {
@@ -29,8 +27,7 @@ pub extern "C" fn jr_vec3_cross(a: &[f64; 3], b: &[f64; 3], out: &mut [f64; 3]) 
 }
 
 // The sum of a and b.
-#[unsafe(no_mangle)]
-pub extern "C" fn jr_vec3_sum(a: &[f64; 3], b: &[f64; 3], out: &mut [f64; 3]) -> u32
+pub fn jr_vec3_sum(a: &[f64; 3], b: &[f64; 3], out: &mut [f64; 3]) -> u32
     ensures number { result ≡ number_of (Vectors.sum_due (vec3 a.now) (vec3 b.now)) }
     ensures out { out.new ≡ after of_vec3 out.old (Vectors.sum_due (vec3 a.now) (vec3 b.now)) }
 {
@@ -40,8 +37,7 @@ pub extern "C" fn jr_vec3_sum(a: &[f64; 3], b: &[f64; 3], out: &mut [f64; 3]) ->
 }
 
 // The difference a - b.
-#[unsafe(no_mangle)]
-pub extern "C" fn jr_vec3_difference(a: &[f64; 3], b: &[f64; 3], out: &mut [f64; 3]) -> u32
+pub fn jr_vec3_difference(a: &[f64; 3], b: &[f64; 3], out: &mut [f64; 3]) -> u32
     ensures number { result ≡ number_of (Vectors.difference_due (vec3 a.now) (vec3 b.now)) }
     ensures out { out.new ≡ after of_vec3 out.old (Vectors.difference_due (vec3 a.now) (vec3 b.now)) }
 {
@@ -51,8 +47,7 @@ pub extern "C" fn jr_vec3_difference(a: &[f64; 3], b: &[f64; 3], out: &mut [f64;
 }
 
 // The vector a with the sign of each coordinate turned.
-#[unsafe(no_mangle)]
-pub extern "C" fn jr_vec3_negation(a: &[f64; 3], out: &mut [f64; 3]) -> u32
+pub fn jr_vec3_negation(a: &[f64; 3], out: &mut [f64; 3]) -> u32
     ensures number { result ≡ number_of (Vectors.negation_due (vec3 a.now)) }
     ensures out { out.new ≡ after of_vec3 out.old (Vectors.negation_due (vec3 a.now)) }
 {
@@ -61,8 +56,7 @@ pub extern "C" fn jr_vec3_negation(a: &[f64; 3], out: &mut [f64; 3]) -> u32
 }
 
 // The vector a times the number k.
-#[unsafe(no_mangle)]
-pub extern "C" fn jr_vec3_times(a: &[f64; 3], k: f64, out: &mut [f64; 3]) -> u32
+pub fn jr_vec3_times(a: &[f64; 3], k: f64, out: &mut [f64; 3]) -> u32
     ensures number { result ≡ number_of (Vectors.times_due (vec3 a.now) k) }
     ensures out { out.new ≡ after of_vec3 out.old (Vectors.times_due (vec3 a.now) k) }
 {
@@ -71,8 +65,7 @@ pub extern "C" fn jr_vec3_times(a: &[f64; 3], k: f64, out: &mut [f64; 3]) -> u32
 }
 
 // Which coordinate of a is the largest in magnitude, 0, 1 or 2, the first of equal ones.
-#[unsafe(no_mangle)]
-pub extern "C" fn jr_vec3_dominant_axis(a: &[f64; 3], out: &mut [u64; 1]) -> u32
+pub fn jr_vec3_dominant_axis(a: &[f64; 3], out: &mut [u64; 1]) -> u32
     ensures number { result ≡ number_of (Vectors.dominant_axis_due (vec3 a.now)) }
     ensures out { out.new ≡ after alone out.old (Vectors.dominant_axis_due (vec3 a.now)) }
 {

@@ -19,7 +19,7 @@ returns-then-is_curve c =
 pub returns : goal.returns
 unfolding after_count
 returns c = record {
-      number = simp (sym c.is_curve.ensures ∙ c.if-is_curve.false);
-      row = simp (sym c.is_curve.ensures ∙ c.if-is_curve.false);
-      written = simp (sym c.is_curve.ensures ∙ c.if-is_curve.false);
-    }
+  number = simp (sym c.is_curve.ensures ∙ c.if-is_curve.false);
+  row = simp (sym c.is_curve.ensures ∙ c.if-is_curve.false);
+  written = simp (sym c.is_curve.ensures ∙ c.if-is_curve.false);
+}

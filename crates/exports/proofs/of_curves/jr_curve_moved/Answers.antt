@@ -9,6 +9,6 @@ returns-then-is_curve c = simp (sym c.is_curve.ensures ∙ c.if-is_curve.true) (
 pub returns-else-is_curve : goal.returns-else-is_curve
 unfolding stored
 returns-else-is_curve c = record {
-      number = simp (sym c.is_curve.ensures ∙ c.if-is_curve.false);
-      out = simp (sym c.is_curve.ensures ∙ c.if-is_curve.false);
-    }
+  number = simp (sym c.is_curve.ensures ∙ c.if-is_curve.false);
+  out = simp (sym c.is_curve.ensures ∙ c.if-is_curve.false);
+}

@@ -9,6 +9,6 @@ returns-then-is_piece c = simp (sym c.is_piece.ensures ∙ c.if-is_piece.true) (
 pub returns-else-is_piece : goal.returns-else-is_piece
 unfolding after
 returns-else-is_piece c = record {
-      number = simp (sym c.is_piece.ensures ∙ c.if-is_piece.false);
-      out = simp (sym c.is_piece.ensures ∙ c.if-is_piece.false);
-    }
+  number = simp (sym c.is_piece.ensures ∙ c.if-is_piece.false);
+  out = simp (sym c.is_piece.ensures ∙ c.if-is_piece.false);
+}

@@ -9,6 +9,6 @@ returns-then-is_surface c = simp (sym c.is_surface.ensures ∙ c.if-is_surface.t
 pub returns-else-is_surface : goal.returns-else-is_surface
 unfolding after
 returns-else-is_surface c = record {
-      number = simp (sym c.is_surface.ensures ∙ c.if-is_surface.false);
-      out = simp (sym c.is_surface.ensures ∙ c.if-is_surface.false);
-    }
+  number = simp (sym c.is_surface.ensures ∙ c.if-is_surface.false);
+  out = simp (sym c.is_surface.ensures ∙ c.if-is_surface.false);
+}

@@ -9,6 +9,6 @@ returns-then-is_turn c = simp (sym c.is_turn.ensures ∙ c.if-is_turn.true) (sim
 pub returns-else-is_turn : goal.returns-else-is_turn
 unfolding after
 returns-else-is_turn c = record {
-      number = simp (sym c.is_turn.ensures ∙ c.if-is_turn.false);
-      out = simp (sym c.is_turn.ensures ∙ c.if-is_turn.false);
-    }
+  number = simp (sym c.is_turn.ensures ∙ c.if-is_turn.false);
+  out = simp (sym c.is_turn.ensures ∙ c.if-is_turn.false);
+}

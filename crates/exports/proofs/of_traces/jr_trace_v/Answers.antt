@@ -9,6 +9,6 @@ returns-then-is_trace c = simp (sym c.is_trace.ensures ∙ c.if-is_trace.true) (
 pub returns-else-is_trace : goal.returns-else-is_trace
 unfolding after
 returns-else-is_trace c = record {
-      number = simp (sym c.is_trace.ensures ∙ c.if-is_trace.false);
-      out = simp (sym c.is_trace.ensures ∙ c.if-is_trace.false);
-    }
+  number = simp (sym c.is_trace.ensures ∙ c.if-is_trace.false);
+  out = simp (sym c.is_trace.ensures ∙ c.if-is_trace.false);
+}

@@ -1,0 +1,39 @@
+// Frames of cones.
+ghost use Rattle.std.specs.Prelude.{◌≡◌, true};
+ghost use Rattle.cones.specs.Entries as Frames;
+ghost use Rattle.checked.specs.Answers.{number_of};
+ghost use Rattle.c_arrays.specs.Records.{vec3, alone, of_vec3, after};
+ghost use Rattle.c_arrays.specs.FaceRecords.{cone, frame, of_frame};
+
+// The frame of the cone c, the same whichever side the body is on.
+#[unsafe(no_mangle)]
+pub extern "C" fn jr_cone_frame(c: &[f64; 8], out: &mut [f64; 12]) -> u32
+    ensures number { result ≡ number_of (Frames.frame_due (cone c.now true)) }
+    ensures out { out.new ≡ after of_frame out.old (Frames.frame_due (cone c.now true)) }
+{
+    exports::of_frames::jr_cone_frame(c, out)
+}
+
+// The angle of the point p about the axis of the frame f, -pi to pi.
+#[unsafe(no_mangle)]
+pub extern "C" fn jr_frame_angle(f: &[f64; 12], p: &[f64; 3], out: &mut [f64; 1]) -> u32
+    ensures number { result ≡ number_of (Frames.angle_due (frame f.now) (vec3 p.now)) }
+    ensures out { out.new ≡ after alone out.old (Frames.angle_due (frame f.now) (vec3 p.now)) }
+{
+    exports::of_frames::jr_frame_angle(f, p, out)
+}
+
+// The point at the angle theta about the axis of the frame f, z along it and r away from it.
+#[unsafe(no_mangle)]
+pub extern "C" fn jr_frame_point(
+    f: &[f64; 12],
+    theta: f64,
+    z: f64,
+    r: f64,
+    out: &mut [f64; 3],
+) -> u32
+    ensures number { result ≡ number_of (Frames.point_due (frame f.now) theta z r) }
+    ensures out { out.new ≡ after of_vec3 out.old (Frames.point_due (frame f.now) theta z r) }
+{
+    exports::of_frames::jr_frame_point(f, theta, z, r, out)
+}
