@@ -8,7 +8,7 @@ ROOT = pathlib.Path(__file__).resolve().parent.parent
 # file and its program.
 APART = ("exports", "c_", "replay", "edge")
 
-USE = re.compile(r"^(?:ghost )?use Rattle·(\w+?)(?:·specs\.specs|\.specs)\.([\w.]+?)(?:\.\{([^}]*)\}| as (\S+?));?$", re.M)
+USE = re.compile(r"^(?:ghost )?use Rattle\.(\w+)\.specs\.([\w.]+?)(?:\.\{([^}]*)\}| as (\S+?));?$", re.M)
 HEAD = re.compile(r"^( *(?:pub )?(?:abbrev |unfoldable )?(?:pub )?([^\s:{}()=]+) : .*)$", re.M)
 
 
@@ -40,7 +40,7 @@ def definitions():
 def words(text):
     """The names in a text, an operator as its definition names it too."""
     found = set(re.findall(r"[^\s(){},;]+", re.sub(r"--.*", "", text)))
-    return found | {f"_{word}_" for word in found} | ({"_>>=_"} if "←" in found else set())
+    return found | {f"◌{word}◌" for word in found} | ({"◌>>=◌"} if "←" in found else set())
 
 
 def cited(text, names, whole):

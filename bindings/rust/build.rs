@@ -1,7 +1,7 @@
 //! Finds the proved library and hands it to the linker: the archive that a variable names, or the
 //! repository's own where no source is newer, or the one that is installed, or else one that is
-//! proved and built here. It writes to the build's own folder and to a cache, never to the
-//! repository, whose target/ another build may be using.
+//! proved and built here. It writes to the build's own folder, to a cache and to a folder for
+//! temporary files, never among the repository's sources, which another build may be using.
 
 use std::collections::hash_map::DefaultHasher;
 use std::env;
@@ -17,6 +17,10 @@ type Found<T> = Result<T, Box<dyn Error>>;
 
 /// Names an archive that is there already.
 const NAMED: &str = "JUNIPERREEF_LIBRARY";
+
+/// The crate of the repository that has the functions for C, and what `rt lib` makes of it.
+const C_CRATE: &str = "crates/exports_c";
+const C_ARCHIVE: &str = "out/libexports_c.a";
 
 /// The archive's name in this crate: its own, so that no other library is taken for it.
 const LINKED: &str = "juniperreef_exports";
@@ -97,7 +101,7 @@ fn installed(sources: Option<&Sources>) -> Option<PathBuf> {
 /// The library's own source, in the repository that this crate stands in.
 struct Sources {
     top: PathBuf,
-    /// Every file, by its place in the repository.
+    /// Every file that a proof reads, by its place in the repository.
     files: Vec<PathBuf>,
     /// When something changed last, and what. A folder changes as a file of it goes.
     newest: (SystemTime, PathBuf),
@@ -106,15 +110,23 @@ struct Sources {
 impl Sources {
     fn beside() -> Found<Option<Self>> {
         let top = PathBuf::from(env::var("CARGO_MANIFEST_DIR")?).join("../..");
-        if !top.join("crates/exports").is_dir() || !top.join("crates.txt").is_file() {
+        if !top.join(C_CRATE).is_dir() || !top.join("crates.txt").is_file() {
             return Ok(None);
         }
         let top = top.canonicalize()?;
         let newest = (SystemTime::UNIX_EPOCH, top.join("crates"));
         let mut sources = Self { top, files: Vec::new(), newest };
-        for part in ["crates", "crates.txt"] {
-            println!("cargo::rerun-if-changed={}", sources.top.join(part).display());
-            sources.gather(part.into())?;
+        let mut parts = vec![PathBuf::from("crates.txt")];
+        for listed in fs::read_dir(sources.top.join("crates"))? {
+            let folder = Path::new("crates").join(listed?.file_name());
+            parts.extend(["src", "specs", "proofs"].map(|part| folder.join(part)));
+        }
+        for part in parts {
+            let whole = sources.top.join(&part);
+            if whole.exists() {
+                println!("cargo::rerun-if-changed={}", whole.display());
+                sources.gather(part)?;
+            }
         }
         sources.files.sort();
         Ok(Some(sources))
@@ -136,35 +148,32 @@ impl Sources {
 
     /// The repository's own archive, where it is newer than every source.
     fn archive(&self) -> Option<PathBuf> {
-        let file = self.top.join("target/staticlib/libexports.a");
+        let file = self.top.join(C_CRATE).join(C_ARCHIVE);
         changed(&file).filter(|at| *at >= self.newest.0).map(|_| file)
     }
 
-    /// An archive that is proved and built from a copy of the sources, in a folder of this build's own,
-    /// and kept in the cache for builds of other profiles and folders.
+    /// An archive that is proved and built from a copy of the sources, and kept in the cache for builds
+    /// of other profiles and folders. The copy lies outside the build's own folder, which may be in the
+    /// repository: there `rt` refuses sources that stand in no crate of its own.
     fn proved(&self) -> Found<PathBuf> {
         let kit = Command::new("rt").arg("version").output();
         let kit = kit.map_err(|why| missing(&format!("`rt` can't be run here ({why})")))?;
         let key = self.key(&kit.stdout)?;
-        let kept = cache().map(|folder| folder.join(key).join("libexports.a"));
+        let kept = cache().map(|folder| folder.join(key).join("libexports_c.a"));
         if let Some(file) = kept.as_ref().filter(|file| file.is_file()) {
             return Ok(file.clone());
         }
-        let place = PathBuf::from(env::var("OUT_DIR")?).join("proved");
+        let place = env::temp_dir().join(format!("juniperreef-{}", process::id()));
         let (began, folder, top) = (Instant::now(), place.display(), self.top.display());
         announce(&format!(
-            "no archive of the library is here: `rt staticlib exports` proves and builds one in \
-             {folder}, in some 15 minutes on two cores; run in {top}, it makes one for all builds"
+            "no archive of the library is here: `rt lib` proves and builds one in {folder}, which \
+             takes long from nothing; run in {top}/{C_CRATE}, it makes one for all builds"
         ));
-        self.copy_to(&place)?;
-        let made =
-            Command::new("rt").args(["staticlib", "exports"]).current_dir(&place).output()?;
-        if !made.status.success() {
-            show_end(&made.stdout);
-            show_end(&made.stderr);
-            return Err("`rt staticlib exports` did not make the library; it said the above".into());
-        }
-        let file = place.join("target/staticlib/libexports.a");
+        let file = PathBuf::from(env::var("OUT_DIR")?).join("libexports_c.a");
+        let made = self.proved_in(&place, &file);
+        let cleared = fs::remove_dir_all(&place);
+        made?;
+        cleared?;
         warn(&format!("proved and built {} in {} s", file.display(), began.elapsed().as_secs()));
         if let Some(kept) = kept {
             match keep(&file, &kept) {
@@ -173,6 +182,19 @@ impl Sources {
             }
         }
         Ok(file)
+    }
+
+    fn proved_in(&self, place: &Path, file: &Path) -> Found<()> {
+        self.copy_to(place)?;
+        let crate_of_c = place.join(C_CRATE);
+        let made = Command::new("rt").arg("lib").current_dir(&crate_of_c).output()?;
+        if !made.status.success() {
+            show_end(&made.stdout);
+            show_end(&made.stderr);
+            return Err("`rt lib` did not make the library; it said the above".into());
+        }
+        fs::copy(crate_of_c.join(C_ARCHIVE), file)?;
+        Ok(())
     }
 
     /// What an archive depends on: the kit and every source. It chooses among archives that were all
@@ -191,12 +213,8 @@ impl Sources {
         Ok(format!("{:016x}", hasher.finish()))
     }
 
-    /// The sources alone: what an earlier run proved in this folder stays.
     fn copy_to(&self, place: &Path) -> Found<()> {
-        match fs::remove_dir_all(place.join("crates")) {
-            Err(why) if why.kind() != io::ErrorKind::NotFound => return Err(why.into()),
-            _ => {}
-        }
+        fs::create_dir_all(place)?;
         for file in &self.files {
             let to = place.join(file);
             fs::create_dir_all(to.parent().ok_or("a file in no folder")?)?;
