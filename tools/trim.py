@@ -1,7 +1,8 @@
 #!/usr/bin/env python3
-"""trim.py CRATE: takes out of the proofs of CRATE what the check says no `simp` applied, and the imports left without a use.
+"""trim.py CRATE: takes out of the proofs of CRATE what the check says no `simp` applied.
 
-Run in the repository once the crate is proved: `rt dev CRATE` notes each entry that a `simp` never applied.
+Run in the repository once the crate is proved: `rt check` notes each entry that a `simp` never applied. `rt tidy` in the crate's
+folder then drops the imports left without a use.
 """
 import os, re, subprocess, sys
 
@@ -35,38 +36,21 @@ def named(name, entries):
     fit = [e for e in entries if e.startswith(name[:-1])]
     return fit if len(fit) == 1 else []
 
-def trimmed_imports(text):
-    """the text without the names that its `use` lines bring and nothing else mentions"""
-    lines = text.split('\n')
-    body = '\n'.join(l for l in lines if not l.startswith('use '))
-    out = []
-    for line in lines:
-        m = re.match(r'(use \S+\.)\{(.*)\}$', line)
-        if m:
-            names = [n for n in split(m.group(2)) if used(n.split(' as ')[-1], body)]
-            if not names:
-                continue
-            line = m.group(1) + '{' + ', '.join(names) + '}'
-        out.append(line)
-    return '\n'.join(out)
-
-def used(name, body):
-    word = name.strip('_')
-    return re.search(r'(?<![\w·-])' + re.escape(word) + r'(?![\w·-])', body) is not None if re.match(r'\w', word) else word in body
-
 def main():
     crate = sys.argv[1]
-    said = subprocess.run(['rt', 'dev', crate], stdout=subprocess.PIPE, stderr=subprocess.STDOUT, text=True, env=dict(os.environ, RT_CUT='0')).stdout
+    folder = os.path.join('crates', crate)
+    said = subprocess.run(['rt', 'check'], cwd=folder, stdout=subprocess.PIPE, stderr=subprocess.STDOUT, text=True).stdout
     edits = {}
     for path, line, col, names in re.findall(r'^(\S+):(\d+):(\d+): note: `simp` made \d+ round\(s\) on the goal and never applied (.*?) \(in', said, re.M):
         edits.setdefault(path, []).append((int(line), int(col), re.findall(r'`([^`]+)`', names)))
     for path, places in edits.items():
         if re.search(rf'^{re.escape(path)}:\d+:\d+: error', said, re.M):
             continue  # what is not proved keeps all its entries
-        lines = open(path, encoding='utf-8').read().split('\n')
+        file = os.path.join(folder, path)
+        lines = open(file, encoding='utf-8').read().split('\n')
         for line, col, names in sorted(places, reverse=True):
             lines[line - 1] = without(lines[line - 1], col - 1, names)
-        open(path, 'w', encoding='utf-8').write(trimmed_imports('\n'.join(lines)))
-        print('trimmed', path)
+        open(file, 'w', encoding='utf-8').write('\n'.join(lines))
+        print('trimmed', os.path.normpath(file))
 
 main()

@@ -167,7 +167,7 @@ impl Sources {
         let (began, folder, top) = (Instant::now(), place.display(), self.top.display());
         announce(&format!(
             "no archive of the library is here: `rt lib` proves and builds one in {folder}, which \
-             takes long from nothing; run in {top}/{C_CRATE}, it makes one for all builds"
+             takes long from nothing; run in {top}/{C_CRATE} it makes one for all builds"
         ));
         let file = PathBuf::from(env::var("OUT_DIR")?).join("libexports_c.a");
         let made = self.proved_in(&place, &file);

@@ -32,13 +32,13 @@
 //! first of these:
 //!
 //! 1. the file that the environment variable `JUNIPERREEF_LIBRARY` names by its full path;
-//! 2. `target/staticlib/libexports.a` of the repository that the crate stands in, where no source of
-//!    the library is newer: `rt staticlib exports`, run there once, makes it;
+//! 2. `crates/exports_c/out/libexports_c.a` of the repository that the crate stands in, where no source
+//!    of the library is newer: `scripts/built exports_c`, run there once, makes it;
 //! 3. `libjuniperreef.a` of the crate's own release that `scripts/install` put where `pkg-config`
 //!    finds it;
-//! 4. one that it proves and builds itself, where the Rattle kit is installed. That takes some 15
-//!    minutes on two cores, once: a cache (`$XDG_CACHE_HOME` or `~/.cache`, folder `juniperreef`)
-//!    keeps it for other profiles and target folders.
+//! 4. one that it proves and builds itself, where the Rattle kit is installed. That takes long, once:
+//!    a cache (`$XDG_CACHE_HOME` or `~/.cache`, folder `juniperreef`) keeps it for other profiles and
+//!    target folders.
 //!
 //! An archive of another layout of numbers than this crate's does not link.
 //!
