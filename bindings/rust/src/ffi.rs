@@ -5,10 +5,10 @@
 
 use crate::Refusal;
 
-// SAFETY: these are the signatures of crates/exports, whose functions are proved to read and write
-// within the arrays that they are handed and to finish for every bit pattern. So those that take
-// arrays alone are safe to call with any; the two that take a row as a pointer and a length are
-// not, and stand last.
+// SAFETY: these are the signatures of crates/exports_c, whose functions are proved to read and
+// write within the arrays that they are handed and to finish for every bit pattern. So those that
+// take arrays alone are safe to call with any; the two that take a row as a pointer and a length
+// are not, and stand last.
 unsafe extern "C" {
     // the layout that these declarations are for
     pub safe fn jr_layout_1() -> u32;

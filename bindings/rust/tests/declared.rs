@@ -61,7 +61,7 @@ fn rows_are_the_headers() {
 #[test]
 fn declarations_are_the_librarys() {
     let here = Path::new(env!("CARGO_MANIFEST_DIR"));
-    let exports = here.join("../../crates/exports/src");
+    let exports = here.join("../../crates/exports_c/src");
     if !exports.is_dir() {
         println!("not compared: the library's source is not beside the crate");
         return;
