@@ -111,12 +111,12 @@ all_due_lem (e ∷ es) h = ap₂ (λ (x : Due Unit) (xs : List (Due Unit)). x �
 
 has_edge : (seen : Seen) (es : List Edge) → seen.has_edge ≡ true → (seen_after seen es).has_edge ≡ true
 has_edge seen [] h = h
-has_edge seen (e ∷ es) h = has_edge _ es refl
+has_edge seen (e ∷ es) h = has_edge (record { has_edge = true; bounds = after seen.bounds (call_due (as_call e) seen.bounds) }) es refl
 
 box_after : (seen : Seen) (es : List Edge) → (seen_after seen es).bounds ≡ run seen.bounds (map as_call es)
 unfolding run
 box_after seen [] = refl
-box_after seen (e ∷ es) = box_after _ es
+box_after seen (e ∷ es) = box_after (record { has_edge = true; bounds = after seen.bounds (call_due (as_call e) seen.bounds) }) es
 
 -- The line of a file of arcs none of which is refused.
 pub file_line : {file : List ℕ} (e : Edge) (es : List Edge) → FileOf file (e ∷ es) → NoneRefused (e ∷ es) → Printed file (e ∷ es)

@@ -1,6 +1,6 @@
 -- The operators on f64, each rounded once, and what libm's functions read of a number's bit pattern
 -- besides its high word. Definitions only.
-use Rattle.std.specs.Prelude.{ℕ, ◌/◌, ◌%◌, ◌^◌, Bool, true, false, cond, eqb, Float}
+use Rattle.std.specs.Prelude.{ℕ, ◌/◌, ◌%◌, ◌^◌, Bool, true, false, cond, eqb, Float, if◌then◌else◌}
 use Rattle.std.specs.Float.{nan, inf, fin, binary64}
 use Rattle.std.specs.Float.Ieee.{add, sub, mul, div, neg}
 use Rattle.checked.specs.Patterns.{bits}
@@ -19,11 +19,6 @@ abbrev pub ◌*ᶠ◌ : Float → Float → Float
 
 abbrev pub ◌/ᶠ◌ : Float → Float → Float
 ◌/ᶠ◌ x y = div binary64 x y
-
-infixr 1 if◌then◌else◌
--- a choice by a test
-abbrev pub if◌then◌else◌ : {A : Type 0} → Bool → A → A → A
-if◌then◌else◌ b x y = cond b x y
 
 -- ---- parts of a pattern
 

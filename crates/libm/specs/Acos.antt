@@ -2,12 +2,12 @@
 -- constants and variables. Definitions only. libm's square root is IEEE 754's.
 -- Method: near 0, π/2 less the arcsine, x plus x times a ratio of polynomials in x²; towards 1 and −1 by the half
 -- angle, twice the arcsine of √((1 − |x|) / 2), whose root is taken in two parts.
-use Rattle.std.specs.Prelude.{ℕ, leb, eqb, Float}
+use Rattle.std.specs.Prelude.{ℕ, leb, eqb, Float, if◌then◌else◌}
 use Rattle.std.specs.Float.{binary64}
 use Rattle.checked.specs.Patterns.{upper}
 use Rattle.checked.specs.Numbers.{zero, half, one, two, literal}
 use Rattle.rounding.specs.Root as Root
-use Rattle.float_bits.specs.FloatBits.{◌+ᶠ◌, ◌-ᶠ◌, ◌*ᶠ◌, ◌/ᶠ◌, if◌then◌else◌, size, sign}
+use Rattle.float_bits.specs.FloatBits.{◌+ᶠ◌, ◌-ᶠ◌, ◌*ᶠ◌, ◌/ᶠ◌, size, sign}
 
 -- the square root
 abbrev pub sqrt : Float → Float

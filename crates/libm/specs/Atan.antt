@@ -2,11 +2,11 @@
 -- variables. Definitions only. Operations that libm makes only to raise a flag are left out.
 -- Method: arctan x = arctan c + arctan((x − c) / (1 + c·x)) with c of 1/2, 1, 3/2 or infinity, whichever is near,
 -- leaves an x of at most 7/16, for which an odd polynomial serves; arctan c is added in two parts.
-use Rattle.std.specs.Prelude.{ℕ, leb, ltb, Float}
+use Rattle.std.specs.Prelude.{ℕ, leb, ltb, Float, if◌then◌else◌}
 use Rattle.std.specs.Float.Ieee.{neg, is_nan}
 use Rattle.checked.specs.Patterns.{high_word}
 use Rattle.checked.specs.Numbers.{one, three_halves, two, literal}
-use Rattle.float_bits.specs.FloatBits.{◌+ᶠ◌, ◌-ᶠ◌, ◌*ᶠ◌, ◌/ᶠ◌, if◌then◌else◌, sign, signed, fabs}
+use Rattle.float_bits.specs.FloatBits.{◌+ᶠ◌, ◌-ᶠ◌, ◌*ᶠ◌, ◌/ᶠ◌, sign, signed, fabs}
 use Rattle.libm.specs.declared.atan.Reduced.{Reduced}
 
 -- ATANHI and ATANLO: the arctangents of 1/2, 1, 3/2 and infinity, in two parts each

@@ -2,11 +2,11 @@
 -- constants and variables, over the arctangent (`atan`). Definitions only.
 -- Method: the arctangent of |y/x|, then the quadrant by the signs; where the quotient is too large or too small to
 -- matter, the angle is known without it.
-use Rattle.std.specs.Prelude.{ℕ, ◌+◌, ◌%◌, ◌*◌, ◌^◌, Bool, ◌&&◌, ◌||◌, ltb, eqb, Float}
+use Rattle.std.specs.Prelude.{ℕ, ◌+◌, ◌%◌, ◌*◌, ◌^◌, Bool, ◌&&◌, ◌||◌, ltb, eqb, Float, if◌then◌else◌}
 use Rattle.std.specs.Float.Ieee.{neg, is_nan}
 use Rattle.checked.specs.Patterns.{bits, high_word}
 use Rattle.checked.specs.Numbers.{zero, two, three, four, literal, pi}
-use Rattle.float_bits.specs.FloatBits.{◌+ᶠ◌, ◌-ᶠ◌, ◌*ᶠ◌, ◌/ᶠ◌, if◌then◌else◌, size, sign, choose, fabs}
+use Rattle.float_bits.specs.FloatBits.{◌+ᶠ◌, ◌-ᶠ◌, ◌*ᶠ◌, ◌/ᶠ◌, size, sign, choose, fabs}
 use Rattle.libm.specs.Atan.{atan}
 
 -- what π rounded lacks of the true one

@@ -1,11 +1,11 @@
 -- What atan2 gives where one argument is a zero (ISO C, Annex F). Assumes nothing.
-use Rattle.std.specs.Prelude.{◌≡◌, refl, Bool, true, false, cond, ℕ, ◌+◌, ◌*◌, ◌/◌, ◌^◌, T, Float}
+use Rattle.std.specs.Prelude.{◌≡◌, refl, Bool, true, false, cond, ℕ, ◌+◌, ◌*◌, ◌/◌, ◌^◌, T, Float, if◌then◌else◌}
 use Rattle.std.proofs.Common.{◌∙◌, arith, ne_eqb}
 use Rattle.std.specs.Float.{binary64}
 use Rattle.std.specs.Float.Ieee.{fits, neg, lt, is_nan, to_bits}
 use Rattle.checked.specs.Patterns.{bits}
 use Rattle.checked.specs.Numbers.{two, pi}
-use Rattle.float_bits.specs.FloatBits.{◌/ᶠ◌, if◌then◌else◌, sign, choose}
+use Rattle.float_bits.specs.FloatBits.{◌/ᶠ◌, sign, choose}
 use Rattle.float_bits.specs.Signs.{nought, nought_of, above_sign, below_sign, above_no_nan, below_no_nan, above_size, below_size}
 use Rattle.libm.specs.AtanLaws.{atan_nought}
 use Rattle.libm.specs.Atan2.{atan2, angle, is_one}

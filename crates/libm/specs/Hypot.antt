@@ -2,11 +2,11 @@
 -- constants and variables. Definitions only. libm's square root is IEEE 754's.
 -- Method: both numbers are scaled so that no square is lost, and each square is taken in two parts, by halves of 26 and
 -- 27 bits, before the sum's root.
-use Rattle.std.specs.Prelude.{ℕ, ◌+◌, ◌-◌, ◌/◌, ◌^◌, ◌||◌, ltb, eqb, Float}
+use Rattle.std.specs.Prelude.{ℕ, ◌+◌, ◌-◌, ◌/◌, ◌^◌, ◌||◌, ltb, eqb, Float, if◌then◌else◌}
 use Rattle.std.specs.Float.{binary64}
 use Rattle.checked.specs.Numbers.{one, two, literal}
 use Rattle.rounding.specs.Root as Root
-use Rattle.float_bits.specs.FloatBits.{◌+ᶠ◌, ◌-ᶠ◌, ◌*ᶠ◌, if◌then◌else◌}
+use Rattle.float_bits.specs.FloatBits.{◌+ᶠ◌, ◌-ᶠ◌, ◌*ᶠ◌}
 use Rattle.libm.specs.declared.hypot.Square.{Square}
 
 -- the square root

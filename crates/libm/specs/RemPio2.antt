@@ -4,11 +4,11 @@
 -- (`never_large` of specs/Laws.antt).
 -- Method: the nearest whole number of quarter turns is taken off with π/2 in parts of 33 bits, so that each product is
 -- exact; where most bits cancel, the next part is taken too.
-use Rattle.std.specs.Prelude.{ℕ, ◌-◌, ◌/◌, ◌%◌, ◌^◌, ℤ, pos, negsuc, leb, ltb, eqb, Float}
+use Rattle.std.specs.Prelude.{ℕ, ◌-◌, ◌/◌, ◌%◌, ◌^◌, ℤ, pos, negsuc, leb, ltb, eqb, Float, if◌then◌else◌}
 use Rattle.std.specs.Float.Ieee.{to_signed}
 use Rattle.checked.specs.Patterns.{high_word}
 use Rattle.checked.specs.Numbers.{two, three, four, literal}
-use Rattle.float_bits.specs.FloatBits.{◌+ᶠ◌, ◌-ᶠ◌, ◌*ᶠ◌, if◌then◌else◌, exponent, sign}
+use Rattle.float_bits.specs.FloatBits.{◌+ᶠ◌, ◌-ᶠ◌, ◌*ᶠ◌, exponent, sign}
 use Rattle.libm.specs.declared.rem_pio2.Rest.{Rest}
 
 -- 1.5 / EPS, which is 1.5 times 2^52

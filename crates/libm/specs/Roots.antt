@@ -1,8 +1,8 @@
 -- Arccosine and hypotenuse of libm 0.2.1: the tests of acos.rs over its cases (`acos`),
 -- then hypot.rs, whose work is on the two patterns (`hypot`). Definitions only.
-use Rattle.std.specs.Prelude.{leb, ltb, eqb, Float}
+use Rattle.std.specs.Prelude.{leb, ltb, eqb, Float, if◌then◌else◌}
 use Rattle.checked.specs.Patterns.{high_word}
-use Rattle.float_bits.specs.FloatBits.{if◌then◌else◌, size, sign}
+use Rattle.float_bits.specs.FloatBits.{size, sign}
 use Rattle.libm.specs.Acos.{acos_far, acos_near, acos_below, acos_above}
 use Rattle.libm.specs.Hypot.{greater, lesser, hypot_ordered}
 

@@ -2,12 +2,12 @@
 -- (`k_trig`) and the reduction of an angle (`rem_pio2`), with libm's names for constants
 -- and variables. Definitions only. They are due at angles of at most 1,048,576 in magnitude.
 -- Operations that libm makes only to raise a flag are left out.
-use Rattle.std.specs.Prelude.{ℕ, Bool, cond, leb, ltb, Float}
+use Rattle.std.specs.Prelude.{ℕ, Bool, cond, leb, ltb, Float, if◌then◌else◌}
 use Rattle.std.specs.Float.Ieee.{neg}
 use Rattle.checked.specs.Checked.{Checked, first, nine, eight, within}
 use Rattle.checked.specs.Patterns.{high_word}
 use Rattle.checked.specs.Numbers.{zero, one}
-use Rattle.float_bits.specs.FloatBits.{if◌then◌else◌, choose}
+use Rattle.float_bits.specs.FloatBits.{choose}
 use Rattle.libm.specs.KTrig.{k_sin0, k_sin, k_cos}
 use Rattle.libm.specs.RemPio2.{rem_pio2}
 use Rattle.libm.specs.declared.rem_pio2.Rest.{Rest}
