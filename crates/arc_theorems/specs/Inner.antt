@@ -22,7 +22,7 @@ use Rattle.checked.specs.Laws.{first_zero, settled_none}
 use Rattle.checked.specs.Numbers.{zero, one, tau, float}
 use Rattle.order.specs.Order.{le_trans_of, lt_le}
 use Rattle.order.specs.Least.{greatest}
-use Rattle.order.specs.Extremes.{greatest_picks}
+use Rattle.order.proofs.Extremes.{greatest_picks}
 use Rattle.float_bits.specs.FloatBits.{fabs}
 use Rattle.rounding.specs.Whole.{ceil, floored, ceiled}
 use Rattle.vectors.specs.declared.Vec3.{Vec3}

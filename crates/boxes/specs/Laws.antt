@@ -9,7 +9,8 @@ use Rattle.std.specs.Float.Ieee.Bits.{is_true}
 use Rattle.std.specs.Float.Ieee.Fits.{and_i, and_l, and_r}
 use Rattle.order.specs.Order.{Number}
 use Rattle.order.specs.Least.{least, greatest}
-use Rattle.order.specs.Extremes.{Least, Greatest, fold, AllNumbers, lowest, highest}
+use Rattle.order.specs.Extremes.{Least, Greatest, fold, AllNumbers}
+use Rattle.order.proofs.Extremes.{lowest, highest}
 use Rattle.vectors.specs.declared.Vec3.{Vec3}
 use Rattle.vectors.specs.Vectors.{is_finite3, nines}
 use Rattle.checked.specs.Refusals.{BAD_BOX_OR_SUMS, NOT_FINITE}

@@ -17,7 +17,7 @@ use Rattle.checked.specs.Laws.{within_finite}
 use Rattle.checked.specs.Numbers.{zero, one}
 use Rattle.order.specs.Order.{le_trans_of}
 use Rattle.order.specs.Least.{least, greatest}
-use Rattle.order.specs.Extremes.{least_picks, greatest_picks}
+use Rattle.order.proofs.Extremes.{least_picks, greatest_picks}
 use Rattle.float_bounds.specs.Parts.{above, under, den, den_pos, nought, zero_round, le_parts, Rounds}
 use Rattle.float_bounds.specs.Intervals.{In, Upto, in_upto, neg_finite, finite_number}
 use Rattle.float_bounds.specs.Powers.{pow, pow_finite, pow_wider, pow_mul, pow_sub, pow_add_of, within_pow}
