@@ -14,7 +14,7 @@ use Rattle.order.proofs.Extremes.{lowest, highest}
 use Rattle.vectors.specs.declared.Vec3.{Vec3}
 use Rattle.vectors.specs.Vectors.{is_finite3, nines}
 use Rattle.checked.specs.Refusals.{BAD_BOX_OR_SUMS, NOT_FINITE}
-use Rattle.checked.specs.Checked.{Checked, Due, due, refused, settled, is_finite, first, given}
+use Rattle.checked.specs.Checked.{Checked, refused, settled, is_finite, first, given}
 use Rattle.checked.specs.Tests.{fails, ◌or◌, passing}
 use Rattle.checked.specs.TestsLaws.{passing_some, fails_none, fails_some}
 use Rattle.checked.specs.Laws.{first_zero, zero_first, first_some, first_none}
