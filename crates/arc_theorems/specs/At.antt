@@ -26,9 +26,10 @@ use Rattle.arcs.specs.Sweep.{circle_within}
 use Rattle.rows.specs.CirclesLaws.{rim_refusal}
 use Rattle.arcs.specs.Points.{angle_within, radius_vector_c, turned_c, at_c}
 use Rattle.arcs.specs.PointsLaws.{spoke_refusal, rim_of, turned_refusal, turned_value}
-use Rattle.float_bounds.specs.Intervals.{le_fabs, finite_number}
-use Rattle.float_bounds.specs.Powers.{pow_div, within_pow}
-use Rattle.float_bounds.specs.SquareRoots.{least_root, sqrt_zero}
+use Rattle.float_bounds.proofs.Intervals.{le_fabs, finite_number}
+use Rattle.float_bounds.proofs.Powers.{pow_div, within_pow}
+use Rattle.float_bounds.specs.SquareRoots.{least_root}
+use Rattle.float_bounds.proofs.SquareRoots.{sqrt_zero}
 use Rattle.arc_theorems.specs.Sizes.{Upto3, none, nine_none, finite3, within_upto3, wider3, minus3, plus3, times3, cross3}
 use Rattle.arc_theorems.specs.Squares.{dot_self}
 use Rattle.arc_theorems.specs.Points.{across3, length_finite, length_least}

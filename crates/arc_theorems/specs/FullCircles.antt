@@ -13,8 +13,8 @@ use Rattle.checked.specs.Numbers.{literal, zero, pi, tau}
 use Rattle.order.specs.Order.{eq_le, eq_sym, le_antisym, le_trans_of, lt_not_le}
 use Rattle.profile_arcs.specs.Angles.{ahead_c, back_c}
 use Rattle.float_bounds.specs.Parts.{nought}
-use Rattle.float_bounds.specs.Intervals.{in_add, in_sub, in_finite}
-use Rattle.float_bounds.specs.Neighbours.{next_down, next_up}
+use Rattle.float_bounds.proofs.Intervals.{in_add, in_sub, in_finite}
+use Rattle.float_bounds.proofs.Neighbours.{next_down, next_up}
 use Rattle.libm_ranges.specs.Quadrants.{Angle}
 use Rattle.vectors.specs.declared.Vec2.{Vec2}
 use Rattle.vectors.specs.declared.Vec3.{Vec3}

@@ -22,7 +22,7 @@ use Rattle.checked.specs.Laws.{first_zero, settled_none}
 use Rattle.checked.specs.Numbers.{zero, one, tau, float}
 use Rattle.order.specs.Order.{le_trans_of, lt_le}
 use Rattle.order.specs.Least.{greatest}
-use Rattle.order.specs.Extremes.{greatest_picks}
+use Rattle.order.proofs.Extremes.{greatest_picks}
 use Rattle.float_bits.specs.FloatBits.{fabs}
 use Rattle.rounding.specs.Whole.{ceil, floored, ceiled}
 use Rattle.vectors.specs.declared.Vec3.{Vec3}
@@ -40,9 +40,12 @@ use Rattle.arcs.specs.ChordsLaws.{cut_refusal, rimmed, inners_are}
 use Rattle.arcs.specs.declared.Arc.{Arc}
 use Rattle.arcs.specs.Entries.{inner_points_due}
 use Rattle.float_bounds.specs.Parts.{nought, plus, minus}
-use Rattle.float_bounds.specs.Intervals.{Upto, upto_in, in_upto, upto_parts, upto_mul, fabs_round, finite_number}
-use Rattle.float_bounds.specs.Own.{unit, above_zero, div_most}
-use Rattle.float_bounds.specs.Powers.{pow, pow_finite, pow_mul, pow_div, pow_wider}
+use Rattle.float_bounds.specs.Intervals.{Upto}
+use Rattle.float_bounds.proofs.Intervals.{upto_in, in_upto, upto_parts, upto_mul, fabs_round, finite_number}
+use Rattle.float_bounds.specs.Own.{unit}
+use Rattle.float_bounds.proofs.Own.{above_zero, div_most}
+use Rattle.float_bounds.specs.Powers.{pow}
+use Rattle.float_bounds.proofs.Powers.{pow_finite, pow_mul, pow_div, pow_wider}
 use Rattle.arc_theorems.specs.Sizes.{none, nine_none}
 use Rattle.arc_theorems.specs.Turns.{Turn, Handed, handed_in, sweep_range, sweep_accepted}
 use Rattle.arc_theorems.specs.PerTurn.{per_turn_accepted, per_turn_range}

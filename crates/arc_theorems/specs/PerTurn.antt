@@ -21,10 +21,13 @@ use Rattle.float_bits.specs.Laws.{fabs_nan}
 use Rattle.rounding.specs.Whole.{ceil, floored, ceiled}
 use Rattle.libm.specs.Roots.{acos}
 use Rattle.chord_counts.specs.Chords.{fewest, most, quotient_c, chords_c, clamped, per_turn_c, per_turn_due}
-use Rattle.float_bounds.specs.Parts.{nought, positive_round}
-use Rattle.float_bounds.specs.Intervals.{In, upto_in, in_sub, in_finite, fabs_round, le_fabs, finite_number}
-use Rattle.float_bounds.specs.Comparing.{le_lt_trans, above_size}
-use Rattle.float_bounds.specs.Own.{unit, above_zero, div_most, div_above}
+use Rattle.float_bounds.specs.Parts.{nought}
+use Rattle.float_bounds.proofs.Parts.{positive_round}
+use Rattle.float_bounds.specs.Intervals.{In}
+use Rattle.float_bounds.proofs.Intervals.{upto_in, in_sub, in_finite, fabs_round, le_fabs, finite_number}
+use Rattle.float_bounds.proofs.Comparing.{le_lt_trans, above_size}
+use Rattle.float_bounds.specs.Own.{unit}
+use Rattle.float_bounds.proofs.Own.{above_zero, div_most, div_above}
 use Rattle.libm_ranges.specs.Arccosines.{acos_finite}
 use Rattle.arc_theorems.specs.Sizes.{nine_none}
 

@@ -21,9 +21,12 @@ use Rattle.boxes.specs.Boxes.{free, widened_by, box_call}
 use Rattle.arcs.specs.Entries.{points, extend_due}
 use Rattle.arcs.specs.Extremes.{side_c, both_c, extremes_c, points_c}
 use Rattle.arcs.specs.ExtremesLaws.{both_refusal, extremes_refusal, points_refusal}
-use Rattle.float_bounds.specs.Intervals.{Upto, le_fabs, finite_number}
-use Rattle.float_bounds.specs.Powers.{pow, pow_mul, pow_div, within_pow}
-use Rattle.float_bounds.specs.SquareRoots.{least_root, sqrt_finite, sqrt_least}
+use Rattle.float_bounds.specs.Intervals.{Upto}
+use Rattle.float_bounds.proofs.Intervals.{le_fabs, finite_number}
+use Rattle.float_bounds.specs.Powers.{pow}
+use Rattle.float_bounds.proofs.Powers.{pow_mul, pow_div, within_pow}
+use Rattle.float_bounds.specs.SquareRoots.{least_root}
+use Rattle.float_bounds.proofs.SquareRoots.{sqrt_finite, sqrt_least}
 use Rattle.order.specs.Order.{le_trans_of}
 use Rattle.arc_theorems.specs.Sizes.{Upto3, none, nine_none, within_upto3, wider3, minus3, plus3, times3, dot3}
 use Rattle.arc_theorems.specs.Squares.{dot_self}

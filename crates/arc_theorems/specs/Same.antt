@@ -23,10 +23,12 @@ use Rattle.arcs.specs.declared.Arc.{Arc}
 use Rattle.arcs.specs.Entries.{sweep_due}
 use Rattle.arcs.specs.Sweep.{circle_within, ends_within, sweep_from_c, sweep_c}
 use Rattle.arcs.specs.SweepLaws.{rise, run}
-use Rattle.float_bounds.specs.Parts.{nought, zero_round}
+use Rattle.float_bounds.specs.Parts.{nought}
+use Rattle.float_bounds.proofs.Parts.{zero_round}
 use Rattle.float_bounds.specs.Intervals.{Upto, plain}
-use Rattle.float_bounds.specs.Unsigned.{plain_sign, plain_number}
-use Rattle.float_bounds.specs.Powers.{pow, pow_finite, pow_mul, pow_add_of}
+use Rattle.float_bounds.proofs.Unsigned.{plain_sign, plain_number}
+use Rattle.float_bounds.specs.Powers.{pow}
+use Rattle.float_bounds.proofs.Powers.{pow_finite, pow_mul, pow_add_of}
 use Rattle.arc_theorems.specs.Sizes.{Upto3, apart2, within_upto3, minus3}
 use Rattle.arc_theorems.specs.Squares.{crossed_zero, square_plain, sum_plain, cross_self, dot_self}
 use Rattle.arc_theorems.specs.Turns.{turn_accepted, sweep_accepted}

@@ -10,7 +10,8 @@ use Rattle.vectors.specs.declared.Vec2.{Vec2}
 use Rattle.vectors.specs.declared.Vec3.{Vec3}
 use Rattle.vectors.specs.Vectors.{is_finite3, within2, within3, plus_c, minus_c, times_c, cross_c, dot_c}
 use Rattle.float_bounds.specs.Intervals.{Upto}
-use Rattle.float_bounds.specs.Powers.{pow, pow_finite, pow_wider, pow_mul, pow_add_of, pow_sub, within_pow}
+use Rattle.float_bounds.specs.Powers.{pow}
+use Rattle.float_bounds.proofs.Powers.{pow_finite, pow_wider, pow_mul, pow_add_of, pow_sub, within_pow}
 
 pub record Upto3 (k : ℕ) (v : Vec3) : Type 0 where
   pub x : Upto (pow k) v.x

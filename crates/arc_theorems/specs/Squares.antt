@@ -9,9 +9,10 @@ use Rattle.vectors.specs.declared.Vec3.{Vec3}
 use Rattle.vectors.specs.Vectors.{space, cross_c, dot_c}
 use Rattle.float_bounds.specs.Parts.{nought}
 use Rattle.float_bounds.specs.Intervals.{Upto, plain}
-use Rattle.float_bounds.specs.Own.{sub_self, mul_comm_of}
-use Rattle.float_bounds.specs.Unsigned.{plain_of, square_unsigned, add_unsigned}
-use Rattle.float_bounds.specs.Powers.{pow, pow_finite, pow_mul, pow_add_of}
+use Rattle.float_bounds.proofs.Own.{sub_self, mul_comm_of}
+use Rattle.float_bounds.proofs.Unsigned.{plain_of, square_unsigned, add_unsigned}
+use Rattle.float_bounds.specs.Powers.{pow}
+use Rattle.float_bounds.proofs.Powers.{pow_finite, pow_mul, pow_add_of}
 use Rattle.arc_theorems.specs.Sizes.{Upto3, dot3}
 
 -- a product less itself, and a sum of two squares

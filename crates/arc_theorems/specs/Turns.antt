@@ -23,9 +23,11 @@ use Rattle.arcs.specs.declared.Arc.{Arc}
 use Rattle.arcs.specs.Sweep.{circle_within, ends_within, sweep_from_c, sweep_c}
 use Rattle.arcs.specs.Entries.{sweep_due}
 use Rattle.arcs.specs.SweepLaws.{rise, run, sweep_from_noted, sweep_refusal}
-use Rattle.float_bounds.specs.Comparing.{lt_le_trans, le_lt_trans, not_le_lt}
-use Rattle.float_bounds.specs.Intervals.{In, Upto, in_add, in_sub, in_finite}
-use Rattle.float_bounds.specs.Powers.{pow, pow_finite, pow_mul, pow_add_of, pow_sub}
+use Rattle.float_bounds.proofs.Comparing.{lt_le_trans, le_lt_trans, not_le_lt}
+use Rattle.float_bounds.specs.Intervals.{In, Upto}
+use Rattle.float_bounds.proofs.Intervals.{in_add, in_sub, in_finite}
+use Rattle.float_bounds.specs.Powers.{pow}
+use Rattle.float_bounds.proofs.Powers.{pow_finite, pow_mul, pow_add_of, pow_sub}
 use Rattle.arc_theorems.specs.Sizes.{Upto3, none, nine_none, three_none, apart2, within_upto3, minus3, dot3, cross3}
 use Rattle.libm_ranges.specs.Quadrants.{Angle, atan2_range, atan2_finite}
 use Rattle.libm_ranges.specs.Fitting.{atan2_fits}

@@ -10,7 +10,7 @@ use Rattle.vectors.specs.Vectors.{along_x, along_y, along_z, is_finite3, minus_c
 use Rattle.vectors.specs.Laws.{minus_left}
 use Rattle.directions.specs.Directions.{length_c, across_c}
 use Rattle.boxes.specs.Boxes.{Sound, AllFinite, ◌⧺◌}
-use Rattle.boxes.specs.Laws.{nines_finite, finite_none, finite_cons, finite_append, sound_none, sound_then, sound_append, sound_either}
+use Rattle.boxes.proofs.Laws.{nines_finite, finite_none, finite_cons, finite_append, sound_none, sound_then, sound_append, sound_either}
 use Rattle.arcs.specs.Sweep.{sweep_from_c}
 use Rattle.arcs.specs.SweepLaws.{swept, sweep_from_ok, swept_finite}
 use Rattle.arcs.specs.Extremes.{side_c, taken_c, both_c, extremes_c, points_c}

@@ -1,3 +1,2 @@
 pub mod Boxes
-pub mod Laws
 pub mod Demand3

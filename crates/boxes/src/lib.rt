@@ -1,5 +1,6 @@
 // Boxes of edges: their widening by points, and the answer of a box call.
 #![tactic(auto)]
+
 ghost use Rattle.std.specs.Prelude.{◌≡◌};
 ghost use Rattle.checked.specs.Checked.{settled};
 ghost use Rattle.boxes.specs.Boxes as Boxes;

@@ -1,6 +1,7 @@
 // Cones, and coordinates across their axis. What a program may call is here, the bare formulas are
 // in `formula`.
 #![tactic(auto)]
+
 ghost use Rattle.std.specs.Prelude.{◌≡◌, ◌&&◌};
 ghost use Rattle.checked.specs.Checked.{number_due, settled};
 ghost use Rattle.vectors.specs.Vectors.{within3};

@@ -21,7 +21,7 @@ use Rattle.order.specs.Least.{negative, least, greatest}
 use Rattle.order.specs.Order.{le_trans_of}
 use Rattle.float_bounds.specs.Intervals.{In}
 use Rattle.float_bounds.specs.Units.{F64, scale, units_in, scaled, Between}
-use Rattle.float_bounds.specs.Interpolation.{step_finite, point_finite, interpolated}
+use Rattle.float_bounds.proofs.Interpolation.{step_finite, point_finite, interpolated}
 use Rattle.vectors.specs.declared.Vec2.{Vec2}
 use Rattle.vectors.specs.Vectors.{origin, plane, space, within2, within3}
 use Rattle.developments.specs.Developments.{development_within}

@@ -1,7 +1,7 @@
 -- Where no refusal is met, every point by which a piece widens a box is finite. Assumes nothing.
 use Rattle.std.specs.Prelude.{◌≡◌, Float}
 use Rattle.boxes.specs.Boxes.{Sound}
-use Rattle.boxes.specs.Laws.{sound_then}
+use Rattle.boxes.proofs.Laws.{sound_then}
 use Rattle.pieces.specs.declared.Rolled.{Rolled}
 use Rattle.pieces.specs.Pieces.{run_c}
 use Rattle.piece_boxes.specs.SpaceBoxes as bounds

@@ -11,7 +11,7 @@ use Rattle.checked.specs.Checked.{first, Due, due, refused}
 use Rattle.checked.specs.Tests.{fails, ◌or◌, passing}
 use Rattle.vectors.specs.declared.Vec3.{Vec3}
 use Rattle.boxes.specs.Boxes.{free, empty, widened_by}
-use Rattle.boxes.specs.Laws.{empty_free}
+use Rattle.boxes.proofs.Laws.{empty_free}
 use Rattle.boxes.specs.Demand3.{answer}
 use Rattle.arcs.specs.Sweep.{ends_within}
 use Rattle.arcs.specs.Entries.{points}

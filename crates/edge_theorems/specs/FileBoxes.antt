@@ -15,7 +15,7 @@ use Rattle.order.specs.Extremes.{Same}
 use Rattle.vectors.specs.declared.Vec3.{Vec3}
 use Rattle.boxes.specs.declared.Bounds.{Bounds}
 use Rattle.boxes.specs.Boxes.{Axis, X, Y, Z, at, free, empty}
-use Rattle.boxes.specs.Laws.{empty_free}
+use Rattle.boxes.proofs.Laws.{empty_free}
 use Rattle.boxes.specs.Demand3.{answer, SameAccepted, SameBox}
 use Rattle.arcs.specs.Entries.{extend_due}
 use Rattle.box_calls.specs.BoxCalls as calls

@@ -6,9 +6,11 @@ use Rattle.checked.specs.Checked.{is_finite, within}
 use Rattle.checked.specs.Laws.{within_finite}
 use Rattle.checked.specs.Patterns.{high_word}
 use Rattle.float_bits.specs.FloatBits.{fabs, ◌*ᶠ◌}
-use Rattle.float_bounds.specs.Intervals.{In, upto_in, upto_mul, upto_wider, in_add}
-use Rattle.float_bounds.specs.Powers.{pow, within_pow}
-use Rattle.float_bounds.specs.HighWords.{word_most}
+use Rattle.float_bounds.specs.Intervals.{In}
+use Rattle.float_bounds.proofs.Intervals.{upto_in, upto_mul, upto_wider, in_add}
+use Rattle.float_bounds.specs.Powers.{pow}
+use Rattle.float_bounds.proofs.Powers.{within_pow}
+use Rattle.float_bounds.proofs.HighWords.{word_most}
 use Rattle.libm.specs.RemPio2.{TO_INT, INV_PIO2, tmp}
 
 -- 1.5 * 2 ^ 52, and at most 2 ^ 20 more or less

@@ -20,14 +20,19 @@ use Rattle.float_bits.specs.Signs.{above_sign}
 use Rattle.rounding.specs.Root as Root
 use Rattle.libm.specs.Acos.{PIO2_HI, PIO2_LO, PS0, PS1, PS2, PS3, PS4, PS5, QS1, QS2, QS3, QS4, tiny, sqrt, ratio, at_one, acos_far, acos_near, acos_above, acos_below}
 use Rattle.libm.specs.Roots.{acos}
-use Rattle.float_bounds.specs.Parts.{nought, add_le}
-use Rattle.float_bounds.specs.Intervals.{In, Upto, plain, positive, upto_in, in_upto, upto_wider, upto_add, upto_mul, upto_div, in_add, in_sub, in_scaled, in_finite, le_fabs, finite_number, plain_finite, plain_fabs}
-use Rattle.float_bounds.specs.Comparing.{lt_le_trans, above_size}
-use Rattle.float_bounds.specs.Own.{unit, mul_comm_of}
-use Rattle.float_bounds.specs.Powers.{pow, pow_wider, pow_mul, pow_add_of, pow_sub, pow_div, pow_finite}
-use Rattle.float_bounds.specs.HighWords.{below_word, above_word, pattern_le}
-use Rattle.float_bounds.specs.Neighbours.{size_top}
-use Rattle.float_bounds.specs.SquareRoots.{least_root, pow_sqrt, sqrt_positive, sqrt_fits}
+use Rattle.float_bounds.specs.Parts.{nought}
+use Rattle.float_bounds.proofs.Parts.{add_le}
+use Rattle.float_bounds.specs.Intervals.{In, Upto, plain, positive}
+use Rattle.float_bounds.proofs.Intervals.{upto_in, in_upto, upto_wider, upto_add, upto_mul, upto_div, in_add, in_sub, in_scaled, in_finite, le_fabs, finite_number, plain_finite, plain_fabs}
+use Rattle.float_bounds.proofs.Comparing.{lt_le_trans, above_size}
+use Rattle.float_bounds.specs.Own.{unit}
+use Rattle.float_bounds.proofs.Own.{mul_comm_of}
+use Rattle.float_bounds.specs.Powers.{pow}
+use Rattle.float_bounds.proofs.Powers.{pow_wider, pow_mul, pow_add_of, pow_sub, pow_div, pow_finite}
+use Rattle.float_bounds.proofs.HighWords.{below_word, above_word, pattern_le}
+use Rattle.float_bounds.proofs.Neighbours.{size_top}
+use Rattle.float_bounds.specs.SquareRoots.{least_root}
+use Rattle.float_bounds.proofs.SquareRoots.{pow_sqrt, sqrt_positive, sqrt_fits}
 
 -- ---- the ratio of the two polynomials, at a z of magnitude at most 1/4
 

@@ -15,10 +15,13 @@ use Rattle.float_bits.specs.FloatBits.{fabs, sign, signed, ◌+ᶠ◌, ◌-ᶠ�
 use Rattle.libm.specs.declared.atan.Reduced.{Reduced}
 use Rattle.libm.specs.Atan.{ATANHI3, AT0, AT1, AT2, AT3, AT4, AT5, AT6, AT7, AT8, AT9, AT10, atan, atan_huge, atan_small, at_half, at_one, at_three_halves, at_infinity, reduced, series, folded}
 use Rattle.float_bits.specs.Laws.{signed_fabs}
-use Rattle.float_bounds.specs.Parts.{nought, le_back}
-use Rattle.float_bounds.specs.Intervals.{In, Upto, plain, upto_in, in_upto, upto_wider, upto_add, upto_sub, upto_mul, upto_neg, upto_div, in_sub, in_add, in_wider, in_scaled, in_finite, le_fabs, finite_number, upto_finite, positive, plain_finite, plain_fabs, neg_finite}
-use Rattle.float_bounds.specs.Own.{unit, shrunk, sub_above}
-use Rattle.float_bounds.specs.HighWords.{below_word, above_word}
+use Rattle.float_bounds.specs.Parts.{nought}
+use Rattle.float_bounds.proofs.Parts.{le_back}
+use Rattle.float_bounds.specs.Intervals.{In, Upto, plain, positive}
+use Rattle.float_bounds.proofs.Intervals.{upto_in, in_upto, upto_wider, upto_add, upto_sub, upto_mul, upto_neg, upto_div, in_sub, in_add, in_wider, in_scaled, in_finite, le_fabs, finite_number, upto_finite, plain_finite, plain_fabs, neg_finite}
+use Rattle.float_bounds.specs.Own.{unit}
+use Rattle.float_bounds.proofs.Own.{shrunk, sub_above}
+use Rattle.float_bounds.proofs.HighWords.{below_word, above_word}
 
 -- 3, 1/2, 1/4 and 1/16
 abbrev pub three : Float

@@ -18,8 +18,10 @@ use Rattle.float_bits.specs.Laws.{fabs_bits, fabs_fits, fabs_twice}
 use Rattle.rounding.specs.Values.{zero_exponent}
 use Rattle.libm.specs.Atan.{atan}
 use Rattle.libm.specs.Atan2.{atan2, angle, is_one, PI_LO, at_zero_y, quarter_turn, both_infinite, infinite_x, at_infinite_x, too_flat, too_steep, ratio_angle, in_quadrant}
-use Rattle.float_bounds.specs.Parts.{nought, plus, minus, above, under, den, den_pos, positive_round}
-use Rattle.float_bounds.specs.Intervals.{In, Upto, upto_in, in_sub, in_neg, in_wider, in_finite, div_is, finite_number}
+use Rattle.float_bounds.specs.Parts.{nought, plus, minus, above, under, den}
+use Rattle.float_bounds.proofs.Parts.{den_pos, positive_round}
+use Rattle.float_bounds.specs.Intervals.{In, Upto}
+use Rattle.float_bounds.proofs.Intervals.{upto_in, in_sub, in_neg, in_wider, in_finite, div_is, finite_number}
 use Rattle.libm_ranges.specs.Arctangents.{three as bound, atan_turned, Turned}
 
 -- [−π, π], π rounded

@@ -15,8 +15,10 @@ use Rattle.libm.specs.KTrig.{S1, S2, S3, S4, S5, S6, C1, C2, C3, C4, C5, C6, sin
 use Rattle.libm.specs.RemPio2.{TO_INT, PIO2_1, PIO2_1T, PIO2_2, PIO2_2T, PIO2_3, PIO2_3T, quarter, parted, tmp, f_n, turns, third_round, second_round, medium, taken_off, added, one_round, to_five, to_seven, from_seven, to_nine, rem_pio2}
 use Rattle.libm.specs.RemPio2Laws.{tmp_range}
 use Rattle.libm.specs.Sincos.{turned_sines, sines}
-use Rattle.float_bounds.specs.Intervals.{Upto, in_upto, in_sub, upto_mul}
-use Rattle.float_bounds.specs.Powers.{pow, pow_wider, pow_mul, pow_add_of, pow_sub, pow_neg, within_pow}
+use Rattle.float_bounds.specs.Intervals.{Upto}
+use Rattle.float_bounds.proofs.Intervals.{in_upto, in_sub, upto_mul}
+use Rattle.float_bounds.specs.Powers.{pow}
+use Rattle.float_bounds.proofs.Powers.{pow_wider, pow_mul, pow_add_of, pow_sub, pow_neg, within_pow}
 
 -- ---- sums and differences of numbers with bounds of their own
 

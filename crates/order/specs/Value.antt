@@ -1,5 +1,5 @@
 -- When two floats that fit are the same, what a zero is, and that sums pick the sign of a zero as the least and the greatest do.
-use Rattle.std.specs.Prelude.{◌≡◌, refl, ◌⊎◌, Bool, not, ◌||◌, cond, ℕ, zero, suc, ◌+◌, ◌*◌, ◌/◌, ◌-◌, ◌^◌, ◌<◌, ℤ, pos, negsuc, eqb, Float}
+use Rattle.std.specs.Prelude.{◌≡◌, refl, ◌⊎◌, Bool, ◌||◌, cond, ℕ, zero, suc, ◌+◌, ◌*◌, ◌/◌, ◌-◌, ◌^◌, ◌<◌, ℤ, pos, negsuc, eqb, Float}
 use Rattle.std.proofs.Common.{sym, ◌∙◌, ap, subst, inl, inr, mul_comm, mul_right_comm, mul-pos, mul-one, one-mul, zero-mul, arith, eqb→eq}
 use Rattle.std.proofs.Math.Bool.{true, false}
 use Rattle.std.specs.Bool.{beq}

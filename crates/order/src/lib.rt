@@ -1,5 +1,6 @@
 // The least and the greatest of two numbers.
 #![tactic(auto)]
+
 ghost use Rattle.std.specs.Prelude.{◌≡◌};
 ghost use Rattle.order.specs.Least as Least;
 

@@ -8,7 +8,7 @@ use Rattle.vectors.specs.declared.Vec3.{Vec3}
 use Rattle.vectors.specs.Vectors.{plane, nines, plus_c, times_c}
 use Rattle.vectors.specs.Laws.{rules as vectors_rules}
 use Rattle.boxes.specs.Boxes.{Sound}
-use Rattle.boxes.specs.Laws.{sound_then, sound_append}
+use Rattle.boxes.proofs.Laws.{sound_then, sound_append}
 use Rattle.arcs.specs.Extremes as arcs
 use Rattle.arcs.specs.Sound as arcs_sound
 use Rattle.developments.specs.Formulas.{point_c}

@@ -161,4 +161,4 @@ module _ {A : Type 0} (k : Item A) where
 
   -- one that failed a test of what is handed in
   pub drawn_failed : (r : ℕ) (rest : Due (List A)) (row : List Float) → (r ≡ 0 → ⊥) → DrawnItems k (passing r rest) row row r 0
-  drawn_failed r rest row h = subst (λ (d : Due (List A)). DrawnItems k d row row r 0) (sym (passing_some r rest h)) (drawn_refused r row)
+  drawn_failed r rest row h = subst (λ (d : Due (List A)). DrawnItems k d row row r 0) (sym (passing_some r rest h)) (record { number = refl; part = mul-zero k.width; rest = refl })

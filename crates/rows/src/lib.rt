@@ -11,6 +11,7 @@
 // Definitions and laws are those of items of any width (`Item` in specs/Rows.antt); a point is one
 // of three numbers.
 #![tactic(auto)]
+
 ghost use Rattle.std.specs.Prelude.{◌≡◌, ◌++◌, ◌+◌, ◌-◌, ◌*◌, ◌≤◌, length, take, drop};
 ghost use Rattle.rows.specs.Rows.{placed};
 

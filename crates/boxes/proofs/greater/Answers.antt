@@ -1,4 +1,3 @@
-use borrow.Author.Rules.{rules}
 use Rattle.boxes.specs.Boxes.{greater}
 use Rattle.boxes.proofs.greater.Goals as goal
 

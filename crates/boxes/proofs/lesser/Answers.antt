@@ -1,4 +1,3 @@
-use borrow.Author.Rules.{rules}
 use Rattle.boxes.specs.Boxes.{lesser}
 use Rattle.boxes.proofs.lesser.Goals as goal
 

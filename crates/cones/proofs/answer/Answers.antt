@@ -1,4 +1,3 @@
-use borrow.Author.Rules.{rules}
 use Rattle.cones.specs.Frames.{frame_c}
 use Rattle.directions.specs.Directions.{unit_c, over_length_c}
 use Rattle.checked.specs.Laws.{first_assoc, zero_first}

@@ -1,7 +1,7 @@
 use borrow.Author.Rules.{rules}
 use Rattle.arcs.specs.Entries.{extend_due}
 use Rattle.checked.specs.Laws.{rules as checked_rules}
-use Rattle.boxes.specs.Laws.{call_is}
+use Rattle.boxes.proofs.Laws.{call_is}
 use Rattle.checked.specs.TestsLaws.{passing_none, passing_some}
 use mathlib.Core.Path.{sym}
 use Rattle.arcs.proofs.Arc.extended.Goals as goal

@@ -1,6 +1,6 @@
 use borrow.Author.Rules.{rules}
 use Rattle.checked.specs.Laws.{first_assoc}
-use Rattle.boxes.specs.Laws.{rules as boxes_rules}
+use Rattle.boxes.proofs.Laws.{rules as boxes_rules}
 use Rattle.arcs.specs.ExtremesLaws.{points_refusal, points_value}
 use Rattle.arcs.proofs.extremes.extended.Goals as goal
 

@@ -1,5 +1,5 @@
 use borrow.Author.Rules.{rules}
-use Rattle.boxes.specs.Laws.{rules as boxes_rules}
+use Rattle.boxes.proofs.Laws.{rules as boxes_rules}
 use Rattle.arcs.proofs.extremes.widened_where.Goals as goal
 
 pub returns-then-t : goal.returns-then-t

@@ -1,7 +1,7 @@
 use borrow.Author.Rules.{rules}
 use Rattle.arcs.specs.Extremes.{both_c}
 use Rattle.checked.specs.Laws.{first_assoc}
-use Rattle.boxes.specs.Laws.{widened_append}
+use Rattle.boxes.proofs.Laws.{widened_append}
 use Rattle.arcs.specs.ExtremesLaws.{taken_refusal, both_refusal}
 use Rattle.arcs.proofs.extremes.with_both.Goals as goal
 

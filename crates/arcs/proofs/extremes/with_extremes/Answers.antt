@@ -1,7 +1,7 @@
 use borrow.Author.Rules.{rules}
 use Rattle.arcs.specs.Extremes.{extremes_c}
 use Rattle.checked.specs.Laws.{first_assoc, first_zero}
-use Rattle.boxes.specs.Laws.{widened_none}
+use Rattle.boxes.proofs.Laws.{widened_none}
 use Rattle.arcs.specs.ExtremesLaws.{extremes_refusal}
 use Rattle.arcs.proofs.extremes.with_extremes.Goals as goal
 

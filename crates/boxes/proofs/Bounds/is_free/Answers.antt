@@ -1,4 +1,3 @@
-use borrow.Author.Rules.{rules}
 use Rattle.boxes.specs.Boxes.{free}
 use Rattle.boxes.proofs.Bounds.is_free.Goals as goal
 

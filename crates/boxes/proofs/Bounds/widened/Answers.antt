@@ -1,4 +1,3 @@
-use borrow.Author.Rules.{rules}
 use Rattle.boxes.specs.Boxes.{widened}
 use Rattle.boxes.proofs.Bounds.widened.Goals as goal
 

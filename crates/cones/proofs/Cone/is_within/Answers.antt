@@ -1,4 +1,3 @@
-use borrow.Author.Rules.{rules}
 use Rattle.cones.specs.Entries.{cone_within}
 use Rattle.cones.proofs.Cone.is_within.Goals as goal
 

@@ -1,4 +1,3 @@
-use borrow.Author.Rules.{rules}
 use Rattle.cones.specs.Entries.{frame_within}
 use Rattle.cones.proofs.Frame.is_within_with.Goals as goal
 

@@ -4,7 +4,7 @@ use Rattle.curves.specs.Laws.{points_arc, points_piece}
 use Rattle.checked.specs.TestsLaws.{passing_none, passing_some}
 use mathlib.Core.Path.{sym}
 use Rattle.checked.specs.Laws.{zero_first}
-use Rattle.boxes.specs.Laws.{call_is}
+use Rattle.boxes.proofs.Laws.{call_is}
 use Rattle.curves.proofs.Curve.extended.Goals as goal
 
 pub returns-in-Arc : goal.returns-in-Arc

@@ -1,7 +1,7 @@
 use borrow.Author.Rules.{rules}
 use Rattle.piece_boxes.specs.SpaceBoxes.{end_arcs_c}
 use Rattle.checked.specs.Laws.{rules as checked_rules}
-use Rattle.boxes.specs.Laws.{widened_append}
+use Rattle.boxes.proofs.Laws.{widened_append}
 use Rattle.piece_boxes.proofs.space_boxes.with_end_arcs.Goals as goal
 
 pub returns : goal.returns

@@ -1,12 +1,13 @@
 -- Comparisons joined, and numbers by the side of 0 that they lie on. Assumes nothing.
 use Rattle.std.specs.Prelude.{◌≡◌, Bool, true, false, not, ℕ, ◌+◌, ◌*◌, ◌≤◌, T, Float}
-use Rattle.std.proofs.Common.{sym, subst, arith}
+use Rattle.std.proofs.Common.{subst, arith}
 use Rattle.std.specs.Float.{nan, inf, fin}
 use Rattle.std.specs.Float.Ieee.{up, down, neg, le, lt, is_nan}
 use Rattle.checked.specs.Checked.{is_finite}
 use Rattle.order.specs.Order.{Number, le_numbers, not_lt_le, le_trans_of, lt_not_le, lt_le}
 use Rattle.float_bits.specs.FloatBits.{fabs}
-use Rattle.float_bounds.specs.Parts.{nought, le_parts, le_back}
+use Rattle.float_bounds.specs.Parts.{nought}
+use Rattle.float_bounds.proofs.Parts.{le_parts, le_back}
 
 decided : (b : Bool) → (T (not b) → ⊥) → T b
 decided true h = tt

@@ -17,14 +17,19 @@ use Rattle.checked.specs.Laws.{within_finite}
 use Rattle.checked.specs.Numbers.{zero, one}
 use Rattle.order.specs.Order.{le_trans_of}
 use Rattle.order.specs.Least.{least, greatest}
-use Rattle.order.specs.Extremes.{least_picks, greatest_picks}
-use Rattle.float_bounds.specs.Parts.{above, under, den, den_pos, nought, zero_round, le_parts, Rounds}
-use Rattle.float_bounds.specs.Intervals.{In, Upto, in_upto, neg_finite, finite_number}
-use Rattle.float_bounds.specs.Powers.{pow, pow_finite, pow_wider, pow_mul, pow_sub, pow_add_of, within_pow}
+use Rattle.order.proofs.Extremes.{least_picks, greatest_picks}
+use Rattle.float_bounds.specs.Parts.{above, under, den, nought, Rounds}
+use Rattle.float_bounds.proofs.Parts.{den_pos, zero_round, le_parts}
+use Rattle.float_bounds.specs.Intervals.{In, Upto}
+use Rattle.float_bounds.proofs.Intervals.{in_upto, neg_finite, finite_number}
+use Rattle.float_bounds.specs.Powers.{pow}
+use Rattle.float_bounds.proofs.Powers.{pow_finite, pow_wider, pow_mul, pow_sub, pow_add_of, within_pow}
 use Rattle.float_bounds.specs.Units.{F64, scale, Between}
-use Rattle.float_bounds.specs.UnitsLaws.{gain, loss, scale_pos, neg_units, le_units, upto_units, units_between}
-use Rattle.float_bounds.specs.RoundedUnits.{Finite, rounds_neg, own_rounds, sum_rounds, product_rounds, rounds_order, units_order, Near, units_near}
-use Rattle.float_bounds.specs.Grids.{multiple, grid_most, tie_most}
+use Rattle.float_bounds.specs.UnitsLaws.{gain, loss}
+use Rattle.float_bounds.proofs.UnitsLaws.{scale_pos, neg_units, le_units, upto_units, units_between}
+use Rattle.float_bounds.specs.RoundedUnits.{Finite, Near}
+use Rattle.float_bounds.proofs.RoundedUnits.{rounds_neg, own_rounds, sum_rounds, product_rounds, rounds_order, units_order, units_near}
+use Rattle.float_bounds.proofs.Grids.{multiple, grid_most, tie_most}
 
 -- ---- what rounds a difference that is not below zero is not below zero, since 0 rounds to 0
 nought_units : (gain nought ≡ 0) × (loss nought ≡ 0)

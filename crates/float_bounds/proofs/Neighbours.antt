@@ -14,10 +14,11 @@ use Rattle.order.specs.Order.{le_trans_of}
 use Rattle.float_bits.specs.FloatBits.{size, fabs}
 use Rattle.float_bits.specs.Laws.{fabs_bits}
 use Rattle.float_bits.specs.Signs.{finite_exponent}
-use Rattle.float_bounds.specs.Parts.{nought, neg_le, neg_twice}
-use Rattle.float_bounds.specs.Intervals.{upto_in, neg_finite}
-use Rattle.float_bounds.specs.HighWords.{pattern_le}
-use Rattle.float_bounds.specs.Comparing.{below_size}
+use Rattle.float_bounds.specs.Parts.{nought}
+use Rattle.float_bounds.proofs.Parts.{neg_le, neg_twice}
+use Rattle.float_bounds.proofs.Intervals.{upto_in, neg_finite}
+use Rattle.float_bounds.proofs.HighWords.{pattern_le}
+use Rattle.float_bounds.proofs.Comparing.{below_size}
 
 -- a finite number's pattern is below the infinity's
 pub size_top : (t : Float) → T (is_finite t) → T (fits binary64 t) → size t < 2047 * 2 ^ 52

@@ -9,11 +9,12 @@ use Rattle.std.specs.Float.Ieee.Bits.{is_true}
 use Rattle.std.specs.Float.Ieee.Fits.{and_i, and_l, and_r}
 use Rattle.order.specs.Order.{Number}
 use Rattle.order.specs.Least.{least, greatest}
-use Rattle.order.specs.Extremes.{Least, Greatest, fold, AllNumbers, lowest, highest}
+use Rattle.order.specs.Extremes.{Least, Greatest, fold, AllNumbers}
+use Rattle.order.proofs.Extremes.{lowest, highest}
 use Rattle.vectors.specs.declared.Vec3.{Vec3}
 use Rattle.vectors.specs.Vectors.{is_finite3, nines}
 use Rattle.checked.specs.Refusals.{BAD_BOX_OR_SUMS, NOT_FINITE}
-use Rattle.checked.specs.Checked.{Checked, Due, due, refused, settled, is_finite, first, given}
+use Rattle.checked.specs.Checked.{Checked, refused, settled, is_finite, first, given}
 use Rattle.checked.specs.Tests.{fails, ◌or◌, passing}
 use Rattle.checked.specs.TestsLaws.{passing_some, fails_none, fails_some}
 use Rattle.checked.specs.Laws.{first_zero, zero_first, first_some, first_none}

@@ -9,7 +9,8 @@ use Rattle.checked.specs.Checked.{is_finite}
 use Rattle.checked.specs.Patterns.{bits}
 use Rattle.float_bits.specs.FloatBits.{fabs, sign}
 use Rattle.float_bits.specs.Laws.{bits_fabs}
-use Rattle.float_bounds.specs.Intervals.{plain, fabs_round}
+use Rattle.float_bounds.specs.Intervals.{plain}
+use Rattle.float_bounds.proofs.Intervals.{fabs_round}
 
 -- finite and unsigned is `plain`
 pub plain_of : (x : Float) → T (is_finite x) → fabs x ≡ x → T (plain x)
