@@ -12,9 +12,12 @@
 //     p  in which number of the first record, counted from 1, has the pattern of the last eight
 //        bytes, which do not belong to the file
 #![tactic(auto)]
-ghost use Rattle.std.specs.Prelude.{◌≤◌, ◌<◌, length};
+
+ghost use Rattle.std.specs.Prelude.{◌≤◌, ◌<◌, length, IfOk};
 
 use edge_file::Reading;
+use std::io;
+use std::io::Read;
 
 // Room for two arcs and two ends.
 const ROOM: usize = 220;
@@ -161,7 +164,7 @@ fn line_at(file: File, letter: u8, n: usize) -> Line {
 fn same_from(a: &[u8], i: usize, b: &[u8], j: usize) -> bool {
     if i <= a.len() {
         if j <= b.len() {
-            return check::same(&a[i..], &b[j..]);
+            return &a[i..] == &b[j..];
         }
     }
     false
@@ -175,50 +178,62 @@ fn is_same(a: Line, b: Line) -> bool {
     same_from(&text, at, &other, from)
 }
 
-fn write_from(text: &[u8], at: usize) {
+fn write_from(rt: &impl Print, text: &[u8], at: usize) -> io::Result<()> {
     if at <= text.len() {
-        io::write_all(1, &text[at..]);
+        rt.write_all(&text[at..])?;
     }
+    Ok(())
 }
 
 // Files with the same line, from the first one up to `end`, which is not one of them.
-fn tell(name: &[u8], letter: u8, first: usize, end: usize, line: Line) {
+fn tell(
+    rt: &impl Print,
+    name: &[u8],
+    letter: u8,
+    first: usize,
+    end: usize,
+    line: Line,
+) -> io::Result<()> {
     let text = line.text;
     let at = line.at;
     if first < end {
         let last = end - 1;
-        io::write_all(1, name);
+        rt.write_all(name)?;
         if letter != b'w' {
-            io::write_all(1, b" ");
-            io::print_decimal(1, first as u64);
+            print!(rt; " {first}")?;
         }
         if first < last {
-            io::write_all(1, b" to ");
-            io::print_decimal(1, last as u64);
-            io::write_all(1, b", ");
-            io::print_decimal(1, (end - first) as u64);
-            io::write_all(1, b" files");
+            let files = end - first;
+            print!(rt; " to {last}, {files} files")?;
         }
-        io::write_all(1, b": ");
-        write_from(&text, at);
+        print!(rt; ": ")?;
+        write_from(rt, &text, at)?;
     }
+    Ok(())
 }
 
 // Each file of a list, from one number up to another.
-fn tell_all(name: &[u8], file: File, letter: u8, from: usize, to: usize) {
+fn tell_all(
+    rt: &impl Print,
+    name: &[u8],
+    file: File,
+    letter: u8,
+    from: usize,
+    to: usize,
+) -> io::Result<()> {
     let mut first = from;
     let mut line = line_at(file, letter, from);
     let mut n = from;
     while n < to {
         let next = line_at(file, letter, n);
         if !is_same(next, line) {
-            tell(name, letter, first, n, line);
+            tell(rt, name, letter, first, n, line)?;
             first = n;
             line = next;
         }
         n += 1;
     }
-    tell(name, letter, first, n, line);
+    tell(rt, name, letter, first, n, line)
 }
 
 // Where a byte stands first from some place on, or the end of the text.
@@ -237,32 +252,50 @@ fn find(text: &[u8], from: usize, byte: u8) -> usize
 }
 
 // The files of a line.
-fn tell_line(line: &[u8]) {
+fn tell_line(rt: &impl Print, line: &[u8]) -> io::Result<()> {
     let colon = find(line, 0, b':');
     if line.len() - colon >= 17 {
         let letter = line[colon + 2];
         let from = number(&line[colon + 4..]);
         let to = number(&line[colon + 11..]);
         let file = file_of(&line[colon + 17..]);
-        tell_all(&line[0..colon], file, letter, from, to);
+        tell_all(rt, &line[0..colon], file, letter, from, to)?;
     }
+    Ok(())
 }
 
-fn tell_lines(text: &[u8]) {
+fn tell_lines(rt: &impl Print, text: &[u8]) -> io::Result<()> {
     let mut at = 0;
     while at < text.len() {
         let end = find(text, at, b'\n');
-        tell_line(&text[at..end]);
+        tell_line(rt, &text[at..end])?;
         if end < text.len() {
             at = end + 1;
         } else {
             at = end;
         }
     }
+    Ok(())
 }
 
-fn main() {
-    let mut text = io::large_buffer();
-    let size = io::read_full(0, &mut text);
-    tell_lines(&text[..size]);
+// Reads until the buffer is full or the input is over, and says how many bytes it put at the
+// buffer's start.
+fn read_full<R: Read>(input: &mut R, buf: &mut [u8]) -> io::Result<usize>
+    ensures { IfOk result (λ n. n ≤ length buf.new) }
+{
+    let mut done = 0;
+    while done < buf.len() {
+        let n = input.read(&mut buf[done..])?;
+        if n == 0 {
+            break;
+        }
+        done += n;
+    }
+    Ok(done)
+}
+
+fn main(rt: HostRuntime) -> io::Result<()> {
+    let mut text = [0u8; 65536];
+    let size = read_full(&mut rt.stdin(), &mut text)?;
+    tell_lines(&rt, &text[..size])
 }

@@ -1,13 +1,15 @@
 // Reads an edge file from standard input, and prints its line: the box of its edges, or why there
 // is none.
 #![tactic(auto)]
-ghost use Rattle.std.specs.Prelude.{◌≡◌, length};
+
+ghost use Rattle.std.specs.Prelude.{◌≡◌, ◌≤◌, length};
 ghost use Rattle.edge_records.specs.Records.{shortest};
 ghost use Rattle.edgebox.specs.Input.{Took, is_due, HasRead};
 
 use edge_file::Reading;
 use edge_records::ARC;
-use libc::{STDIN_FILENO, STDOUT_FILENO};
+use std::io;
+use std::io::Read;
 
 // A reading after one read, and whether another one is due.
 #[derive(Clone, Copy)]
@@ -36,18 +38,33 @@ fn take(reading: Reading, bytes: &[u8]) -> Turn
     }
 }
 
+// Reads until the buffer is full, the input is over or a read fails, and says how many bytes it put
+// at the buffer's start.
+fn read_full<R: Read>(input: &mut R, buf: &mut [u8]) -> usize
+    ensures { result ≤ length buf.new }
+{
+    let mut done = 0;
+    while done < buf.len() {
+        match input.read(&mut buf[done..]) {
+            Ok(n) if n > 0 => done += n,
+            _ => return done,
+        }
+    }
+    done
+}
+
 // Reads record by record until the input is over, or a refusal ends the reading. Another record can
 // follow only an edge's, so a read asks for as many bytes as that has: no more than one record is
 // in memory, and the bytes after the end record are in its read. Nothing says that an input ends,
 // so the reads are counted down from a number that no run uses up.
-fn read_all(buf: &mut [u8]) -> Reading
+fn read_all<R: Read>(input: &mut R, buf: &mut [u8]) -> Reading
     requires { length buf.old ≡ shortest }
     ensures { HasRead result }
 {
     let mut reading = Reading::begun();
     let mut reads = u64::MAX;
     while reads > 0 {
-        let count = io::read_full(STDIN_FILENO, buf);
+        let count = read_full(input, buf);
         let turn = take(reading, &buf[..count]);
         reading = turn.reading;
         if turn.is_due {
@@ -59,10 +76,10 @@ fn read_all(buf: &mut [u8]) -> Reading
     reading
 }
 
-fn main() {
+fn main(rt: HostRuntime) -> io::Result<()> {
     let mut buf = [0u8; ARC];
-    let reading = read_all(&mut buf);
+    let reading = read_all(&mut rt.stdin(), &mut buf);
     let mut line = [0u8; 160];
     let from = reading.finish(&mut line);
-    io::write_all(STDOUT_FILENO, &line[from..]);
+    rt.write_all(&line[from..])
 }

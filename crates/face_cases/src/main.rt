@@ -2,6 +2,7 @@
 // and the number found, by their bit patterns, and whether they are within 1e-12 of each other, in
 // parts of the number due, or of the body's size where that is 0.
 #![tactic(auto)]
+
 use arcs::Arc;
 use checked::PI;
 use cones::Cone;
@@ -11,6 +12,7 @@ use piece_curves::{PieceArc, PieceTrace};
 use pieces::Rolled;
 use profile_arcs::ProfileArc;
 use revolutions::closings;
+use std::io;
 use vectors::{Vec2, Vec3};
 use walls::cut_walls;
 
@@ -23,29 +25,19 @@ const HERE: Vec3 = Vec3 {
     z: 11.0,
 };
 
-fn say(text: &[u8]) {
-    io::write_all(libc::STDOUT_FILENO, text);
-}
-
-fn show(x: f64) {
-    io::print_hex(libc::STDOUT_FILENO, checked::bits(x), 16);
-}
-
 fn is_near(due: f64, found: f64, size: f64) -> bool {
     float_bits::fabs(due - found) <= BOUND * size
 }
 
 // A number due, in a body of some size.
-fn compare(name: &[u8], due: f64, found: f64, size: f64) {
-    say(name);
-    say(b": due ");
-    show(due);
-    say(b", found ");
-    show(found);
+fn compare(rt: &impl Print, name: &str, due: f64, found: f64, size: f64) -> io::Result<()> {
+    let a = checked::bits(due);
+    let b = checked::bits(found);
+    print!(rt; "{name}: due {a:016x}, found {b:016x}")?;
     if is_near(due, found, size) {
-        say(b", near\n");
+        println!(rt; ", near")
     } else {
-        say(b", FAR\n");
+        println!(rt; ", FAR")
     }
 }
 
@@ -139,82 +131,93 @@ fn rectangle(acc: Integrals, r: f64, h: f64) -> Integrals {
 }
 
 // A closed body: its volume, the area of its round side, its centre, and an area vector of 0.
-fn body(s: Integrals, volume: f64, area: f64, y: f64, z: f64) {
+fn body(rt: &impl Print, s: Integrals, volume: f64, area: f64, y: f64, z: f64) -> io::Result<()> {
     let k = 4.0 * s.surface.six_v;
-    compare(b"  volume", volume, s.surface.six_v / 6.0, volume);
-    compare(b"  round side's area", area, s.surface.area, area);
-    compare(b"  centre x", 0.0, HERE.x + s.surface.moment.x / k, 100.0);
-    compare(b"  centre y", y, HERE.y + s.surface.moment.y / k, 100.0);
-    compare(b"  centre z", z, HERE.z + s.surface.moment.z / k, 100.0);
-    compare(b"  area vector x", 0.0, s.surface.area_vector.x, area);
-    compare(b"  area vector y", 0.0, s.surface.area_vector.y, area);
-    compare(b"  area vector z", 0.0, s.surface.area_vector.z, area);
+    compare(rt, "  volume", volume, s.surface.six_v / 6.0, volume)?;
+    compare(rt, "  round side's area", area, s.surface.area, area)?;
+    compare(
+        rt,
+        "  centre x",
+        0.0,
+        HERE.x + s.surface.moment.x / k,
+        100.0,
+    )?;
+    compare(rt, "  centre y", y, HERE.y + s.surface.moment.y / k, 100.0)?;
+    compare(rt, "  centre z", z, HERE.z + s.surface.moment.z / k, 100.0)?;
+    compare(rt, "  area vector x", 0.0, s.surface.area_vector.x, area)?;
+    compare(rt, "  area vector y", 0.0, s.surface.area_vector.y, area)?;
+    compare(rt, "  area vector z", 0.0, s.surface.area_vector.z, area)
 }
 
-fn cylinder() {
-    say(b"cylinder of radius 50 and height 100\n");
+fn cylinder(rt: &impl Print) -> io::Result<()> {
+    println!(rt; "cylinder of radius 50 and height 100")?;
     let s = side(Integrals::NOTHING, 50.0, 0.0, 100.0, 1.0);
     let s = disk(s, 100.0, 1.0, 50.0, 1.0, 1.0);
     let s = disk(s, 0.0, -1.0, 50.0, 1.0, 1.0);
-    body(s, PI * 250000.0, PI * 10000.0, 0.0, 50.0);
+    body(rt, s, PI * 250000.0, PI * 10000.0, 0.0, 50.0)
 }
 
 // The slant is the root of 80 times 80 and 20 times 20.
-fn frustum() {
-    say(b"frustum of the radii 50 and 30 and the height 80\n");
+fn frustum(rt: &impl Print) -> io::Result<()> {
+    println!(rt; "frustum of the radii 50 and 30 and the height 80")?;
     let s = side(Integrals::NOTHING, 50.0, -0.25, 80.0, 1.0);
     let s = disk(s, 80.0, 1.0, 30.0, 1.0, 1.0);
     let s = disk(s, 0.0, -1.0, 50.0, 1.0, 1.0);
     body(
+        rt,
         s,
         PI * 392000.0 / 3.0,
         PI * 80.0 * 82.46211251235322,
         0.0,
         1640.0 / 49.0,
-    );
+    )
 }
 
-fn half_cylinder() {
-    say(b"half of a cylinder of radius 50 and height 100\n");
+fn half_cylinder(rt: &impl Print) -> io::Result<()> {
+    println!(rt; "half of a cylinder of radius 50 and height 100")?;
     let s = side(Integrals::NOTHING, 50.0, 0.0, 100.0, -1.0);
     let s = disk(s, 100.0, 1.0, 50.0, 1.0, -1.0);
     let s = disk(s, 0.0, -1.0, 50.0, -1.0, 1.0);
     let s = rectangle(s, 50.0, 100.0);
-    body(s, PI * 125000.0, PI * 5000.0, 200.0 / (3.0 * PI), 50.0);
+    body(rt, s, PI * 125000.0, PI * 5000.0, 200.0 / (3.0 * PI), 50.0)
 }
 
 // One rim as one path, and as two halves added one after the other.
-fn one_rim_in_parts() {
-    say(b"a rim at height 100 whole, and in two halves\n");
+fn one_rim_in_parts(rt: &impl Print) -> io::Result<()> {
+    println!(rt; "a rim at height 100 whole, and in two halves")?;
     let c = cone(50.0, 0.0);
     let open = sums_of(revolutions::open(c, HERE));
     let whole = add_arc(open, c, 100.0, -1.0, 50.0, 50.0, 50.0);
     let first = add_arc(open, c, 100.0, -1.0, 50.0, 50.0, -50.0);
     let both = add_arc(first, c, 100.0, -1.0, 50.0, -50.0, 50.0);
     compare(
-        b"  six times the volume",
+        rt,
+        "  six times the volume",
         whole.surface.six_v,
         both.surface.six_v,
         whole.surface.six_v,
-    );
+    )?;
     compare(
-        b"  area",
+        rt,
+        "  area",
         whole.surface.area,
         both.surface.area,
         whole.surface.area,
-    );
+    )?;
     compare(
-        b"  moment x",
+        rt,
+        "  moment x",
         whole.surface.moment.x,
         both.surface.moment.x,
         1e8,
-    );
+    )?;
     compare(
-        b"  moment z",
+        rt,
+        "  moment z",
         whole.surface.moment.z,
         both.surface.moment.z,
         1e8,
-    );
+    )
 }
 
 // A sheet around the z axis, its neutral layer at 50 from it.
@@ -260,71 +263,78 @@ fn add_quarters(s: Integrals, from: f64, quarter: f64, v: f64) -> Integrals {
     add_straight(three, from + 3.0 * quarter, from + 4.0 * quarter, v)
 }
 
-fn compare_sums(due: Integrals, found: Integrals) {
+fn compare_sums(rt: &impl Print, due: Integrals, found: Integrals) -> io::Result<()> {
     compare(
-        b"  six times the volume",
+        rt,
+        "  six times the volume",
         due.surface.six_v,
         found.surface.six_v,
         1e6,
-    );
+    )?;
     compare(
-        b"  moment x",
+        rt,
+        "  moment x",
         due.surface.moment.x,
         found.surface.moment.x,
         1e8,
-    );
+    )?;
     compare(
-        b"  moment y",
+        rt,
+        "  moment y",
         due.surface.moment.y,
         found.surface.moment.y,
         1e8,
-    );
+    )?;
     compare(
-        b"  moment z",
+        rt,
+        "  moment z",
         due.surface.moment.z,
         found.surface.moment.z,
         1e8,
-    );
-    compare(b"  area", due.surface.area, found.surface.area, 1e4);
+    )?;
+    compare(rt, "  area", due.surface.area, found.surface.area, 1e4)?;
     compare(
-        b"  area vector x",
+        rt,
+        "  area vector x",
         due.surface.area_vector.x,
         found.surface.area_vector.x,
         1e4,
-    );
+    )?;
     compare(
-        b"  area vector y",
+        rt,
+        "  area vector y",
         due.surface.area_vector.y,
         found.surface.area_vector.y,
         1e4,
-    );
+    )?;
     compare(
-        b"  area vector z",
+        rt,
+        "  area vector z",
         due.surface.area_vector.z,
         found.surface.area_vector.z,
         1e4,
-    );
+    )
 }
 
 // The side of a cylinder by its two rims, each of them one path, and by their quarters; then by arcs in place of pieces.
-fn one_face_in_pieces() {
-    say(b"the side of a cylinder, a rim a path, and piece by piece\n");
+fn one_face_in_pieces(rt: &impl Print) -> io::Result<()> {
+    println!(rt; "the side of a cylinder, a rim a path, and piece by piece")?;
     let all = 100.0 * PI;
     let open = sums_of(revolutions::open(cone(50.0, 0.0), HERE));
     let low = add_straight(open, 0.0, all, 0.0);
     let whole = add_straight(low, all, 0.0, 100.0);
     let half = add_quarters(open, 0.0, 25.0 * PI, 0.0);
     let parts = add_quarters(half, all, -25.0 * PI, 100.0);
-    compare_sums(whole, parts);
-    say(b"the same by arcs\n");
-    compare_sums(whole, side(Integrals::NOTHING, 50.0, 0.0, 100.0, 1.0));
+    compare_sums(rt, whole, parts)?;
+    println!(rt; "the same by arcs")?;
+    compare_sums(rt, whole, side(Integrals::NOTHING, 50.0, 0.0, 100.0, 1.0))
 }
 
 // The notch is half a circle of radius 10 about (25 pi, 100), which the face's loop runs clockwise. With J the Bessel function of order 1
 // at 10 / 50, the area vector of the part that it takes away is 500 pi J along y; n is the radial direction, so six times the volume is
 // twice what the area times 50, less the area vector times the place of measuring, comes to.
-fn half_cylinder_with_a_notch() {
-    say(b"half of a cylinder's side with a notch of radius 10 in its upper rim\n");
+fn half_cylinder_with_a_notch(rt: &impl Print) -> io::Result<()> {
+    println!(rt; "half of a cylinder's side with a notch of radius 10 in its upper rim")?;
     let notch = 500.0 * PI * 0.099500832639236;
     let mid = 25.0 * PI;
     let area = PI * 4950.0;
@@ -352,20 +362,21 @@ fn half_cylinder_with_a_notch() {
     ));
     let s = add_straight(cut, mid - 10.0, 0.0, 100.0);
     let vector = 10000.0 - notch;
-    compare(b"  area", area, s.surface.area, area);
-    compare(b"  area vector x", 0.0, s.surface.area_vector.x, area);
-    compare(b"  area vector y", vector, s.surface.area_vector.y, area);
+    compare(rt, "  area", area, s.surface.area, area)?;
+    compare(rt, "  area vector x", 0.0, s.surface.area_vector.x, area)?;
+    compare(rt, "  area vector y", vector, s.surface.area_vector.y, area)?;
     compare(
-        b"  six times the volume",
+        rt,
+        "  six times the volume",
         2.0 * (50.0 * area - HERE.y * vector),
         s.surface.six_v,
         1e6,
-    );
+    )
 }
 
 // A round hole of radius 10 in the development, which the face's loop runs clockwise.
-fn cylinder_with_a_hole() {
-    say(b"the same cylinder's side with a hole of radius 10 in its development\n");
+fn cylinder_with_a_hole(rt: &impl Print) -> io::Result<()> {
+    println!(rt; "the same cylinder's side with a hole of radius 10 in its development")?;
     let c = cone(50.0, 0.0);
     let open = sums_of(revolutions::open(c, HERE));
     let low = add_arc(open, c, 0.0, 1.0, 50.0, 50.0, 50.0);
@@ -376,7 +387,7 @@ fn cylinder_with_a_hole() {
         ccw: false,
     });
     let all = sums_of(revolutions::add_piece(both, c, piece(p, p, hole), HERE));
-    compare(b"  area", PI * 9900.0, all.surface.area, PI * 9900.0);
+    compare(rt, "  area", PI * 9900.0, all.surface.area, PI * 9900.0)
 }
 
 // The wall over a straight piece, from 40 to 60 from the axis.
@@ -391,43 +402,52 @@ fn wall(to: Vec2) -> Integrals {
 }
 
 // A cut along the axis has a rectangle for its wall, one across it a part of a ring.
-fn straight_walls() {
-    say(b"walls of straight cuts, along the axis and a quarter turn about it\n");
+fn straight_walls(rt: &impl Print) -> io::Result<()> {
+    println!(rt; "walls of straight cuts, along the axis and a quarter turn about it")?;
     let s = wall(Vec2 { x: 0.0, y: 100.0 });
-    compare(b"  area", 2000.0, s.surface.area, 2000.0);
-    compare(b"  area vector y", -2000.0, s.surface.area_vector.y, 2000.0);
+    compare(rt, "  area", 2000.0, s.surface.area, 2000.0)?;
     compare(
-        b"  six times the volume",
+        rt,
+        "  area vector y",
+        -2000.0,
+        s.surface.area_vector.y,
+        2000.0,
+    )?;
+    compare(
+        rt,
+        "  six times the volume",
         -12000.0,
         s.surface.six_v,
         12000.0,
-    );
+    )?;
     let s = wall(Vec2 {
         x: 50.0 * (0.5 * PI),
         y: 0.0,
     });
-    compare(b"  area", PI * 500.0, s.surface.area, 2000.0);
+    compare(rt, "  area", PI * 500.0, s.surface.area, 2000.0)?;
     compare(
-        b"  area vector z",
+        rt,
+        "  area vector z",
         PI * 500.0,
         s.surface.area_vector.z,
         2000.0,
-    );
+    )?;
     compare(
-        b"  six times the volume",
+        rt,
+        "  six times the volume",
         PI * -11000.0,
         s.surface.six_v,
         40000.0,
-    );
+    )
 }
 
-fn main() {
-    cylinder();
-    frustum();
-    half_cylinder();
-    one_rim_in_parts();
-    cylinder_with_a_hole();
-    one_face_in_pieces();
-    half_cylinder_with_a_notch();
-    straight_walls();
+fn main(rt: HostRuntime) -> io::Result<()> {
+    cylinder(&rt)?;
+    frustum(&rt)?;
+    half_cylinder(&rt)?;
+    one_rim_in_parts(&rt)?;
+    cylinder_with_a_hole(&rt)?;
+    one_face_in_pieces(&rt)?;
+    half_cylinder_with_a_notch(&rt)?;
+    straight_walls(&rt)
 }

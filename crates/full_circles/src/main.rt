@@ -4,9 +4,11 @@
 // points, half of them a few bits apart: each is a full circle exactly where its arctangent lies in
 // [-2^-51, 0], as crates/arc_theorems proves.
 #![tactic(auto)]
+
 use arcs::Arc;
 use checked::{NumberAnswer, TAU};
 use libm::atan2;
+use std::io;
 use std::num::wrapping_add_u64;
 use vectors::Vec3;
 
@@ -14,10 +16,6 @@ use vectors::Vec3;
 const LOST: f64 = 4.440892098500626e-16;
 
 const CALLS: u32 = 1_000_000;
-
-fn say(text: &[u8]) {
-    io::write_all(libc::STDOUT_FILENO, text);
-}
 
 fn about_z() -> Arc {
     Arc {
@@ -36,14 +34,14 @@ fn sweep_of(from: Vec3, to: Vec3) -> f64 {
 }
 
 // The sweep from a point to the one beside it with another y, given by its pattern.
-fn show(name: &[u8], from: Vec3, y: u64) {
+fn show(rt: &impl Print, name: &str, from: Vec3, y: u64) -> io::Result<()> {
     let sweep = sweep_of(from, Vec3::new(from.x, checked::of_bits(y), 0.0));
-    say(name);
-    io::print_hex(libc::STDOUT_FILENO, checked::bits(sweep), 16);
+    let bits = checked::bits(sweep);
+    print!(rt; "{name}{bits:016x}")?;
     if sweep == TAU {
-        say(b", a full circle\n");
+        println!(rt; ", a full circle")
     } else {
-        say(b"\n");
+        println!(rt; "")
     }
 }
 
@@ -102,19 +100,16 @@ fn count(calls: u32) -> u32 {
     good
 }
 
-fn main() {
+fn main(rt: HostRuntime) -> io::Result<()> {
     let p = Vec3::new(3.0, 4.0, 0.0);
-    show(b"9 bits behind: ", p, 0x400f_ffff_ffff_fff7);
-    show(b"8 bits behind: ", p, 0x400f_ffff_ffff_fff8);
-    show(b"1 bit behind: ", p, 0x400f_ffff_ffff_ffff);
-    show(b"the same: ", p, 0x4010_0000_0000_0000);
-    show(b"1 bit ahead: ", p, 0x4010_0000_0000_0001);
+    show(&rt, "9 bits behind: ", p, 0x400f_ffff_ffff_fff7)?;
+    show(&rt, "8 bits behind: ", p, 0x400f_ffff_ffff_fff8)?;
+    show(&rt, "1 bit behind: ", p, 0x400f_ffff_ffff_ffff)?;
+    show(&rt, "the same: ", p, 0x4010_0000_0000_0000)?;
+    show(&rt, "1 bit ahead: ", p, 0x4010_0000_0000_0001)?;
     let q = Vec3::new(5.0, 0.0, 0.0);
-    show(b"1 bit ahead of 0: ", q, 1);
-    show(b"3 bits ahead of 0: ", q, 3);
-    say(b"drawn ");
-    io::print_decimal(libc::STDOUT_FILENO, CALLS as u64);
-    say(b", as proved ");
-    io::print_decimal(libc::STDOUT_FILENO, count(CALLS) as u64);
-    say(b"\n");
+    show(&rt, "1 bit ahead of 0: ", q, 1)?;
+    show(&rt, "3 bits ahead of 0: ", q, 3)?;
+    let good = count(CALLS);
+    println!(rt; "drawn {CALLS}, as proved {good}")
 }

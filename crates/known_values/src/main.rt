@@ -1,10 +1,13 @@
 // Runs the well-known values of data/values.txt: each result may be one step from the f64 nearest
 // to the true value. A line whose result is farther off is named.
 #![tactic(auto)]
+
 use answer_lines::{operation, pattern};
-use bytes::scan::find;
 use libm::{atan2, roots, sincos};
+use std::fs::File;
 use std::num::{wrapping_add_u32, wrapping_add_u64};
+use std::os::unix::fs::FileExt;
+use std::{fs, io};
 
 // Where the next line begins, the number of the one before it, and how many lines came out how.
 #[derive(Clone, Copy)]
@@ -18,10 +21,6 @@ struct Progress {
 
 // More lines than the file has.
 const MOST: u32 = 1_000_000;
-
-fn say(text: &[u8]) {
-    io::write_all(libc::STDOUT_FILENO, text);
-}
 
 // The result is at most one step from number k of the line.
 fn is_near(line: &[u8], k: usize, got: f64) -> bool {
@@ -62,29 +61,27 @@ fn is_comment(line: &[u8]) -> bool {
     }
 }
 
-fn step(line: &[u8], p: Progress) -> Progress {
+fn step(rt: &impl Print, line: &[u8], p: Progress) -> io::Result<Progress> {
     if is_comment(line) {
-        return p;
+        return Ok(p);
     }
     if is_known(line) {
-        return Progress {
+        return Ok(Progress {
             is_over: false,
             at: p.at,
             line: p.line,
             near: wrapping_add_u64(p.near, 1),
             off: p.off,
-        };
+        });
     }
-    say(b"off at line ");
-    io::print_decimal(libc::STDOUT_FILENO, p.line);
-    say(b"\n");
-    Progress {
+    println!(rt; "off at line {}", p.line)?;
+    Ok(Progress {
         is_over: false,
         at: p.at,
         line: p.line,
         near: p.near,
         off: wrapping_add_u64(p.off, 1),
-    }
+    })
 }
 
 // Past a line of so many bytes.
@@ -109,20 +106,16 @@ fn ended(p: Progress) -> Progress {
 }
 
 // One line read and run. What comes after the last newline ends the file.
-fn next(fd: i32, p: Progress) -> Progress {
-    let mut buf = io::buffer();
-    let got = libc::pread(fd, &mut buf, p.at as i64);
-    let n = io::count(got, &buf);
-    let end = find(&buf, 0, n, 10);
-    if end < n {
-        let q = past(p, end as u32 + 1);
-        step(&buf[..end], q)
-    } else {
-        ended(p)
+fn next(rt: &impl Print, file: &File, p: Progress) -> io::Result<Progress> {
+    let mut buf = [0u8; 4096];
+    let n = file.read_at(&mut buf, p.at as u64)?;
+    match buf[..n].iter().position(|b| *b == b'\n') {
+        Some(end) => step(rt, &buf[..end], past(p, end as u32 + 1)),
+        None => Ok(ended(p)),
     }
 }
 
-fn run(fd: i32) -> Progress {
+fn run(rt: &impl Print, file: &File) -> io::Result<Progress> {
     let mut p = Progress {
         is_over: false,
         at: 0,
@@ -132,25 +125,17 @@ fn run(fd: i32) -> Progress {
     };
     let mut turns = MOST;
     while turns > 0 && !p.is_over {
-        p = next(fd, p);
+        p = next(rt, file, p)?;
         turns -= 1;
     }
-    p
+    Ok(p)
 }
 
-fn report(p: Progress) {
-    io::print_decimal(libc::STDOUT_FILENO, p.near);
-    say(b" lines within 1 ulp, ");
-    io::print_decimal(libc::STDOUT_FILENO, p.off);
-    say(b" off\n");
+fn report(rt: &impl Print, p: Progress) -> io::Result<()> {
+    println!(rt; "{} lines within 1 ulp, {} off", p.near, p.off)
 }
 
-fn main() {
-    let fd = os::open_read(b"values.txt");
-    if fd < 0 {
-        os::fail(b"values.txt");
-        return;
-    }
-    report(run(fd));
-    libc::close(fd);
+fn main(rt: HostRuntime) -> io::Result<()> {
+    let file = fs::open(&rt, "values.txt")?;
+    report(&rt, run(&rt, &file)?)
 }

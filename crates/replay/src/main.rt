@@ -1,8 +1,11 @@
 // Runs two lists against the port, the Rust's answers and cases worked out by hand: one line for each operation, and one for each call
 // whose answer is another.
 #![tactic(auto)]
-use bytes::scan::find;
+
+use std::fs::File;
 use std::num::{wrapping_add_u32, wrapping_add_u64};
+use std::os::unix::fs::FileExt;
+use std::{fs, io};
 
 mod calls;
 mod names;
@@ -60,48 +63,37 @@ impl Tally {
         }
     }
 
-    fn print(self) {
-        say(b" ");
-        tell(self.alike);
-        say(b" alike, ");
-        tell(self.different);
-        say(b" different\n");
+    fn print(self, rt: &impl Print) -> io::Result<()> {
+        println!(rt; " {} alike, {} different", self.alike, self.different)
     }
-}
-
-fn say(text: &[u8]) {
-    io::write_all(libc::STDOUT_FILENO, text);
-}
-
-fn tell(n: u64) {
-    io::print_decimal(libc::STDOUT_FILENO, n);
 }
 
 impl Progress {
     // The line of an operation, where there is one.
-    fn print(self) {
+    fn print(self, rt: &impl Print) -> io::Result<()> {
         let here = self.here;
         if self.operation > 0 {
-            names::print(self.operation);
-            here.print();
+            names::print(rt, self.operation)?;
+            here.print(rt)?;
         }
+        Ok(())
     }
 
     // On to a line's operation: the one before is printed where that was another.
-    fn turned(self, operation: u64) -> Progress {
+    fn turned(self, rt: &impl Print, operation: u64) -> io::Result<Progress> {
         let all = self.all;
         if operation == self.operation {
-            self
+            Ok(self)
         } else {
-            self.print();
-            Progress {
+            self.print(rt)?;
+            Ok(Progress {
                 is_over: false,
                 at: self.at,
                 line: self.line,
                 operation,
                 here: NONE,
                 all,
-            }
+            })
         }
     }
 
@@ -156,51 +148,45 @@ fn is_comment(line: &[u8]) -> bool {
     }
 }
 
-fn tried(line: &[u8], number: u64, operation: u64) -> bool {
+fn tried(rt: &impl Print, line: &[u8], number: u64, operation: u64) -> io::Result<bool> {
     let is_alike = calls::is_alike(operation, line);
     if !is_alike {
-        say(b"different at line ");
-        tell(number);
-        say(b"\n");
+        println!(rt; "different at line {number}")?;
     }
-    is_alike
+    Ok(is_alike)
 }
 
-fn step(line: &[u8], p: Progress) -> Progress {
+fn step(rt: &impl Print, line: &[u8], p: Progress) -> io::Result<Progress> {
     if is_comment(line) {
-        return p;
+        return Ok(p);
     }
     let operation = answer_lines::operation(line);
-    let q = p.turned(operation);
-    q.with(tried(line, q.line, operation))
+    let q = p.turned(rt, operation)?;
+    let is_alike = tried(rt, line, q.line, operation)?;
+    Ok(q.with(is_alike))
 }
 
 // The list is over where no byte is left. A line whose newline does not come within the buffer's bytes, or not at all, is told: what
 // follows is not run.
-fn last(left: usize, p: Progress) -> Progress {
+fn last(rt: &impl Print, left: usize, p: Progress) -> io::Result<Progress> {
     if left > 0 {
-        say(b"no end in 4096 bytes of line ");
-        tell(wrapping_add_u64(p.line, 1));
-        say(b"\n");
+        let line = wrapping_add_u64(p.line, 1);
+        println!(rt; "no end in 4096 bytes of line {line}")?;
     }
-    p.ended()
+    Ok(p.ended())
 }
 
 // One line read and run.
-fn next(fd: i32, p: Progress) -> Progress {
-    let mut buf = io::buffer();
-    let got = libc::pread(fd, &mut buf, p.at as i64);
-    let n = io::count(got, &buf);
-    let end = find(&buf, 0, n, 10);
-    if end < n {
-        let q = p.past(end as u32 + 1);
-        step(&buf[..end], q)
-    } else {
-        last(n, p)
+fn next(rt: &impl Print, file: &File, p: Progress) -> io::Result<Progress> {
+    let mut buf = [0u8; 4096];
+    let n = file.read_at(&mut buf, p.at as u64)?;
+    match buf[..n].iter().position(|b| *b == b'\n') {
+        Some(end) => step(rt, &buf[..end], p.past(end as u32 + 1)),
+        None => last(rt, n, p),
     }
 }
 
-fn replay(fd: i32) {
+fn replay(rt: &impl Print, file: &File) -> io::Result<()> {
     let mut p = Progress {
         is_over: false,
         at: 0,
@@ -211,26 +197,16 @@ fn replay(fd: i32) {
     };
     let mut turns = MOST;
     while turns > 0 && !p.is_over {
-        p = next(fd, p);
+        p = next(rt, file, p)?;
         turns -= 1;
     }
-    p.print();
+    p.print(rt)?;
     let all = p.all;
-    say(b"all");
-    all.print();
+    print!(rt; "all")?;
+    all.print(rt)
 }
 
-fn run(list: &[u8]) {
-    let fd = os::open_read(list);
-    if fd < 0 {
-        os::fail(list);
-        return;
-    }
-    replay(fd);
-    libc::close(fd);
-}
-
-fn main() {
-    run(b"answers.txt");
-    run(b"trials.txt");
+fn main(rt: HostRuntime) -> io::Result<()> {
+    replay(&rt, &fs::open(&rt, "answers.txt")?)?;
+    replay(&rt, &fs::open(&rt, "trials.txt")?)
 }

@@ -8,25 +8,25 @@ use Rattle.edgebox.proofs.Files.{Standing, stands_begun, stands_more, stands_las
 use Rattle.edgebox.proofs.read_all.Goals as goal
 
 pub loop-reads-init : goal.loop-reads-init
-loop-reads-init c = (refl, stands_begun c.begun-reading.result c.begun-reading.ensures)
+loop-reads-init g c = (refl, stands_begun c.begun-reading.result c.begun-reading.ensures)
 
 pub overflow_sub-reads : goal.overflow_sub-reads
-overflow_sub-reads c = omega arith
+overflow_sub-reads g c = omega arith
 
 pub loop-reads-smaller : goal.loop-reads-smaller
-loop-reads-smaller c = omega arith
+loop-reads-smaller g c = omega arith
 
 pub loop-reads-preserved : goal.loop-reads-preserved
-loop-reads-preserved c =
+loop-reads-preserved g c =
     let t = c.take-turn in
     let l = c.loop-reads in
     (search rules, stands_more l.reading t.result.reading _ l.invariant.1 t.ensures.took (sym t.ensures.is_due_value ∙ c.if-turn.true))
 
 pub returns-else-turn : goal.returns-else-turn
-returns-else-turn c =
+returns-else-turn g c =
     let t = c.take-turn in
     let l = c.loop-reads in
     stands_last l.reading t.result.reading _ l.invariant.1 t.ensures.took
 
 pub returns : goal.returns
-returns c = stands_over c.loop-reads.reading c.loop-reads.invariant.1
+returns g c = stands_over c.loop-reads.reading c.loop-reads.invariant.1

@@ -8,7 +8,7 @@ use Rattle.edgebox.proofs.Files.{Standing, stands_begun, stands_more, stands_las
 use Rattle.edgebox.proofs.read_all.Given as goal
 
 abbrev pub invariant-loop-reads : goal.invariant-loop-reads
-invariant-loop-reads l = (length l.buf ≡ length l.initial.buf) × Standing l.reading
+invariant-loop-reads g l = (length l.buf ≡ length l.initial.buf) × Standing l.reading
 
 abbrev pub decreases-loop-reads : goal.decreases-loop-reads
-decreases-loop-reads l = l.reads
+decreases-loop-reads g l = l.reads
