@@ -1,6 +1,7 @@
 // A line of the list of the Rust's answers: two decimal digits for the operation, two for the refusal, then bit patterns of 16
 // hexadecimal digits, each after a space.
 #![tactic(auto)]
+
 ghost use Rattle.std.specs.Prelude.{◌≡◌, ◌+◌, ◌≤◌, length};
 ghost use Rattle.answer_lines.specs.Lines as Lines;
 

@@ -1,6 +1,7 @@
 // The arc of an edge: what a program may call. The formulas are in `sweep`, `points`,
 // `extremes` and `chords`, on the parts of an arc.
 #![tactic(auto)]
+
 ghost use Rattle.std.specs.Prelude.{◌≡◌, length};
 ghost use Rattle.checked.specs.Checked.{number_due, settled};
 ghost use Rattle.checked.specs.Answers.{number_of, Lent};

@@ -1,5 +1,6 @@
 // Records as arrays of numbers, and answers stored where they are due: numbers and vectors.
 #![tactic(auto)]
+
 ghost use Rattle.std.specs.Prelude.{◌≡◌, ◌+◌, ◌≤◌, length};
 ghost use Rattle.checked.specs.Checked.{number_due};
 ghost use Rattle.vectors.specs.Entries.{vector_due, index_due};

@@ -1,5 +1,6 @@
 // Refusals by number, the tests that lead to them, and helpers on bit patterns that have a result for every f64.
 #![tactic(auto)]
+
 ghost use Rattle.std.specs.Prelude.{◌≡◌};
 ghost use Rattle.checked.specs.Checked.{is_finite, nine, first, within, settled, number_due};
 ghost use Rattle.checked.specs.Patterns as Patterns;

@@ -1,6 +1,7 @@
 // How many chords a circle is drawn with: what a program may call is here, the bare formulas are in
 // `formula`.
 #![tactic(auto)]
+
 ghost use Rattle.std.specs.Prelude.{◌≡◌, ◌&&◌};
 ghost use Rattle.checked.specs.Checked.{number_due, within};
 ghost use Rattle.chord_counts.specs.Chords.{per_turn_due};

@@ -1,6 +1,7 @@
 // Constants of the code, given back beside the papers' figures that they equal: a program that wants
 // them takes them from their own crates.
 #![tactic(auto)]
+
 ghost use Rattle.std.specs.Prelude.{◌≡◌};
 ghost use Rattle.vectors.specs.Vectors.{origin, along_x, along_y, along_z};
 ghost use Rattle.chord_counts.specs.Counts as Counts;

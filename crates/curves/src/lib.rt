@@ -1,5 +1,6 @@
 // A curve in space: what a program may call is here, the formulas that choose between arc and piece in `formula`.
 #![tactic(auto)]
+
 ghost use Rattle.std.specs.Prelude.{◌≡◌};
 ghost use Rattle.checked.specs.Checked.{settled};
 ghost use Rattle.checked.specs.Answers.{Lent};

@@ -1,5 +1,6 @@
 // Numbers as the shops read them: whole thousandths, and decimal digits.
 #![tactic(auto)]
+
 ghost use Rattle.std.specs.Prelude.{◌≡◌, Bool, ◌/◌, ◌%◌, ◌^◌, ◌<◌, length, drop};
 ghost use Rattle.std.specs.Float.{binary64};
 ghost use Rattle.std.specs.Float.Ieee.{of_fields};

@@ -1,5 +1,6 @@
 // Unit vectors: along a vector, and away from an axis. What a program may call is here, the bare formulas are in `formula`.
 #![tactic(auto)]
+
 ghost use Rattle.std.specs.Prelude.{◌≡◌};
 ghost use Rattle.vectors.specs.Entries.{vector_due};
 ghost use Rattle.directions.specs.Directions.{unit_due};

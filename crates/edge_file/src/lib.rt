@@ -1,5 +1,6 @@
 // Reading an edge file: the records one after the other, and the line at the end.
 #![tactic(auto)]
+
 ghost use Rattle.std.specs.Prelude.{◌≡◌, [], ◌≤◌, length, drop};
 ghost use Rattle.edge_records.specs.Records.{record_of};
 ghost use Rattle.edge_file.specs.EdgeFile.{next, call_of};

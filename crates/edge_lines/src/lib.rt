@@ -1,5 +1,6 @@
 // The line that the program prints, put together from its end: each part is put before what stands already.
 #![tactic(auto)]
+
 ghost use Rattle.std.specs.Prelude.{◌≡◌, ◌++◌, ◌+◌, ◌≤◌, length, drop};
 ghost use Rattle.checked.specs.Checked.{due, settled};
 ghost use Rattle.decimals.specs.Digits.{digits, numeral};

@@ -1,5 +1,6 @@
 // The records of an edge file: what their heads say, and the numbers in their bodies.
 #![tactic(auto)]
+
 ghost use Rattle.std.specs.Prelude.{◌≡◌, [], ◌∷◌, ◌+◌, ◌*◌, ◌≤◌, length};
 ghost use Rattle.edge_records.specs.Records.{low_first, number_at, point_at, tagged, length_of, head_of, kind_of, edge_of, record_of, size_of_kind, size_of};
 

@@ -1,4 +1,5 @@
 // What holds of edge files.
 #![tactic(auto)]
+
 pub mod arc_files;
 pub mod file_boxes;

@@ -1,6 +1,7 @@
 // The running sums of a face after a path, an arc or a piece of a development: the loops over its
 // panels and their nodes. Numbers may be of any size.
 #![tactic(auto)]
+
 ghost use Rattle.std.specs.Prelude.{◌≡◌};
 ghost use Rattle.checked.specs.Checked.{first};
 ghost use Rattle.integrals.specs.Gauss.{panel_at_c};

@@ -1,5 +1,6 @@
 // What libm's functions read of a number's bit pattern besides its high word, for every number.
 #![tactic(auto)]
+
 ghost use Rattle.std.specs.Prelude.{◌≡◌};
 ghost use Rattle.std.specs.Float.Ieee as Ieee;
 ghost use Rattle.float_bits.specs.FloatBits as W;

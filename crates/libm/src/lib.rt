@@ -1,5 +1,6 @@
 // The functions of libm that the formulas call, each in the file of libm that it comes from.
 #![tactic(auto)]
+
 pub mod acos;
 pub mod atan;
 pub mod atan2;

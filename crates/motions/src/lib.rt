@@ -1,5 +1,6 @@
 // Rigid motions. What a program may call is here, the formulas are in `formula`.
 #![tactic(auto)]
+
 ghost use Rattle.std.specs.Prelude.{◌≡◌, ◌&&◌};
 ghost use Rattle.checked.specs.Checked.{within, settled};
 ghost use Rattle.vectors.specs.Vectors.{within3};

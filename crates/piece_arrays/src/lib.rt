@@ -3,6 +3,7 @@
 //
 // The parts stand in a slice, so that an array that holds more than a piece can hold one too.
 #![tactic(auto)]
+
 ghost use Rattle.std.specs.Prelude.{◌≡◌, ◌≤◌, length};
 ghost use Rattle.c_arrays.specs.Records.{over};
 ghost use Rattle.piece_arrays.specs.Arrays.{FROM, CENTRE, TRACE, ANGLES, is_piece, piece_arc, piece_trace, piece, arc_tag, trace_tag, of_ends, of_centre, of_turn, of_cylinder, of_meet, of_trace, with_piece};

@@ -1,5 +1,6 @@
 // The box of a piece: in the development, and the points that widen a box in space.
 #![tactic(auto)]
+
 pub mod brackets;
 pub mod curve_boxes;
 pub mod meet_boxes;

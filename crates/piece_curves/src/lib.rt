@@ -1,6 +1,7 @@
 // What a piece of a development follows, from its first end to its last, ready to be followed: of a
 // meet the pipe is worked out once.
 #![tactic(auto)]
+
 ghost use Rattle.std.specs.Prelude.{◌≡◌};
 ghost use Rattle.piece_curves.specs.PieceCurves.{meet_kind_c, traced_c, untraced, kind_c, curve_c};
 

@@ -1,6 +1,7 @@
 // The unit normal of the wall over a piece of a development, left of its direction: on numbers of
 // any size.
 #![tactic(auto)]
+
 ghost use Rattle.std.specs.Prelude.{◌≡◌};
 ghost use Rattle.piece_normals.specs.Normals.{straight_c, arc_c, wave_c, own_c, hole_c, meet_c, traced_c, without_arc_c, direction_c, normal_c};
 

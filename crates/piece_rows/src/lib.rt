@@ -1,6 +1,7 @@
 // The inner points of a piece of a development, written to a lent row as `rows::circles` writes those of
 // a circle. Numbers may be of any size.
 #![tactic(auto)]
+
 ghost use Rattle.std.specs.Prelude.{◌≡◌, cond, ◌++◌, ◌+◌, ◌*◌, ◌≤◌, length, drop};
 ghost use Rattle.checked.specs.Answers.{number_of};
 ghost use Rattle.rows.specs.Rows.{up_to, flat, placed, row_after, points_due, all_due, Drawn};

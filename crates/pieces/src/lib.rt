@@ -1,5 +1,6 @@
 // A piece of a development: what a program may call is here, what others build on is in `formula`.
 #![tactic(auto)]
+
 ghost use Rattle.std.specs.Prelude.{◌≡◌};
 ghost use Rattle.checked.specs.Checked.{first, settled};
 ghost use Rattle.pieces.specs.Entries.{place_due, flat_due, piece_due, measured_due, count_due, box_due, piece_within, tests, at_due, second_due, reversed_due, measure_due, quadrature_due, chords_due, polyline_due, uv_box_due, normal_due};

@@ -1,5 +1,6 @@
 // An arc of a profile.
 #![tactic(auto)]
+
 ghost use Rattle.std.specs.Prelude.{◌≡◌, ◌&&◌};
 ghost use Rattle.checked.specs.Checked.{number_due};
 ghost use Rattle.vectors.specs.Vectors.{within2};

@@ -1,6 +1,7 @@
 // IEEE 754's square root, ceiling and rounding to a whole number (halves away from zero), for every
 // f64. They refuse nothing: a NaN gives a NaN, and a number below zero has a NaN for its root.
 #![tactic(auto)]
+
 ghost use Rattle.std.specs.Prelude.{◌≡◌, ℕ, ◌+◌, ◌-◌, ◌*◌, ◌/◌, ◌%◌, ◌^◌, ◌≤◌, ◌<◌, false, pos, T};
 ghost use Rattle.std.specs.Float.{binary64, fin};
 ghost use Rattle.std.specs.Float.Ieee.{lt, of_int};

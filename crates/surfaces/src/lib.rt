@@ -1,5 +1,6 @@
 // The surface that a face lies on: what a program may call is here, the formulas that choose by its case in `formula`.
 #![tactic(auto)]
+
 ghost use Rattle.std.specs.Prelude.{◌≡◌};
 ghost use Rattle.checked.specs.Checked.{settled};
 ghost use Rattle.vectors.specs.Entries.{vector_due};

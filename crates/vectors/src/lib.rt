@@ -1,5 +1,6 @@
 // Vectors in the plane and in space: what a program may call is here, the bare formulas are in `formula`.
 #![tactic(auto)]
+
 ghost use Rattle.std.specs.Prelude.{◌≡◌, ◌&&◌};
 ghost use Rattle.checked.specs.Checked.{number_due, settled, within};
 ghost use Rattle.vectors.specs.Vectors.{within2, within3, nines, plane, space};

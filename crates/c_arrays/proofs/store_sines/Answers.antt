@@ -7,9 +7,9 @@ use Rattle.c_arrays.proofs.store_sines.Goals as goal
 pub returns-then-r-eq0 : goal.returns-then-r-eq0
 unfolding after over
 returns-then-r-eq0 c = record {
-      number = simp (c.if-r-eq0.true, settled_none);
-      out = simp (c.if-r-eq0.true, settled_none);
-    }
+  number = simp (c.if-r-eq0.true, settled_none);
+  out = simp (c.if-r-eq0.true, settled_none);
+}
 
 pub returns : goal.returns
 unfolding after over

@@ -6,6 +6,6 @@ use Rattle.piece_curves.proofs.curve_of.Goals as goal
 pub returns : goal.returns
 unfolding curve_c
 returns c = record {
-      refusal = simp (c.way_of-x.ensures.refusal, c.way_of-x.ensures.value, checked_rules);
-      value = simp c.way_of-x.ensures.value;
-    }
+  refusal = simp (c.way_of-x.ensures.refusal, c.way_of-x.ensures.value, checked_rules);
+  value = simp c.way_of-x.ensures.value;
+}

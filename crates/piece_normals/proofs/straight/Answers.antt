@@ -7,6 +7,6 @@ use Rattle.piece_normals.proofs.straight.Goals as goal
 pub returns : goal.returns
 unfolding straight_c
 returns c = record {
-      refusal = simp (c.note-2.ensures, c.note.ensures, checked_rules);
-      value = refl;
-    }
+  refusal = simp (c.note-2.ensures, c.note.ensures, checked_rules);
+  value = refl;
+}

@@ -15,13 +15,13 @@ no h = subst (λ (a : Bool). T (not a)) (sym h) tt
 pub nearest_whole-y-requires : goal.nearest_whole-y-requires
 unfolding of_bits
 nearest_whole-y-requires c = record {
-      above_zero = yes c.if-x.true;
-      below_wholes = yes c.if-x-2.true;
-    }
+  above_zero = yes c.if-x.true;
+  below_wholes = yes c.if-x-2.true;
+}
 
 pub nearest_whole-y-requires-then-x-4 : goal.nearest_whole-y-requires-then-x-4
 unfolding of_bits neg
-nearest_whole-y-requires-then-x-4 c = 
+nearest_whole-y-requires-then-x-4 c =
     let t = turned_below c.args.x (small_below c.args.x (yes c.if-x-3.true) (yes c.if-x-4.true)) in
     record { above_zero = t.0; below_wholes = t.1 }
 

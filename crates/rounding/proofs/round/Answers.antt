@@ -15,9 +15,9 @@ no h = subst (λ (a : Bool). T (not a)) (sym h) tt
 pub nearest_up-requires : goal.nearest_up-requires
 unfolding of_bits
 nearest_up-requires c = record {
-      above_zero = yes c.if-x.true;
-      below_wholes = yes c.if-x-2.true;
-    }
+  above_zero = yes c.if-x.true;
+  below_wholes = yes c.if-x-2.true;
+}
 
 pub nearest_up-requires-then-x-4 : goal.nearest_up-requires-then-x-4
 unfolding of_bits neg

@@ -7,6 +7,6 @@ use Rattle.arcs.proofs.formula.reversed.Goals as goal
 pub returns : goal.returns
 unfolding reversed_c
 returns c = record {
-      refusal = simp (c.noted.ensures, c.neg-axis.ensures, checked_rules, vectors_rules);
-      value = simp c.neg-axis.ensures;
-    }
+  refusal = simp (c.noted.ensures, c.neg-axis.ensures, checked_rules, vectors_rules);
+  value = simp c.neg-axis.ensures;
+}

@@ -8,6 +8,6 @@ use Rattle.arcs.proofs.sweep.sweep_from.Goals as goal
 pub returns : goal.returns
 unfolding sweep_from_c
 returns c = record {
-      refusal = (simp (c.note.ensures, c.ahead-a.ensures, c.angle-t.ensures.refusal, c.angle-t.ensures.value, c.dot-2.ensures, c.dot.ensures, c.cross.ensures, c.minus-v.ensures, first_assoc)) ∙ sym (sweep_from_refusal c.args.center c.args.axis c.args.u c.args.p);
-      value = simp (c.ahead-a.ensures, c.angle-t.ensures.value, c.dot-2.ensures, c.dot.ensures, c.cross.ensures, c.minus-v.ensures);
-    }
+  refusal = (simp (c.note.ensures, c.ahead-a.ensures, c.angle-t.ensures.refusal, c.angle-t.ensures.value, c.dot-2.ensures, c.dot.ensures, c.cross.ensures, c.minus-v.ensures, first_assoc)) ∙ sym (sweep_from_refusal c.args.center c.args.axis c.args.u c.args.p);
+  value = simp (c.ahead-a.ensures, c.angle-t.ensures.value, c.dot-2.ensures, c.dot.ensures, c.cross.ensures, c.minus-v.ensures);
+}

@@ -6,20 +6,20 @@ use Rattle.c_arrays.proofs.trace_records.store_height.Goals as goal
 pub returns-in-Value : goal.returns-in-Value
 unfolding after over some_due
 returns-in-Value c = record {
-      number = simp c.in-Value.is;
-      out = simp c.in-Value.is;
-    }
+  number = simp c.in-Value.is;
+  out = simp c.in-Value.is;
+}
 
 pub returns-in-Nothing : goal.returns-in-Nothing
 unfolding after over some_due
 returns-in-Nothing c = record {
-      number = simp c.in-Nothing.is;
-      out = simp c.in-Nothing.is;
-    }
+  number = simp c.in-Nothing.is;
+  out = simp c.in-Nothing.is;
+}
 
 pub returns-in-Refused : goal.returns-in-Refused
 unfolding after over some_due
 returns-in-Refused c = record {
-      number = simp c.in-Refused.is;
-      out = simp c.in-Refused.is;
-    }
+  number = simp c.in-Refused.is;
+  out = simp c.in-Refused.is;
+}

@@ -6,15 +6,15 @@ use Rattle.c_shapes.proofs.curve_records.store_curve.Goals as goal
 pub returns-in-Value : goal.returns-in-Value
 unfolding stored after
 returns-in-Value c = record {
-      number = simp c.in-Value.is;
-      out = simp (c.put_curve.ensures, c.in-Value.is);
-      tags = simp (c.put_tags.ensures, c.in-Value.is);
-    }
+  number = simp c.in-Value.is;
+  out = simp (c.put_curve.ensures, c.in-Value.is);
+  tags = simp (c.put_tags.ensures, c.in-Value.is);
+}
 
 pub returns-in-Refused : goal.returns-in-Refused
 unfolding stored after
 returns-in-Refused c = record {
-      number = simp c.in-Refused.is;
-      out = simp c.in-Refused.is;
-      tags = simp c.in-Refused.is;
-    }
+  number = simp c.in-Refused.is;
+  out = simp c.in-Refused.is;
+  tags = simp c.in-Refused.is;
+}

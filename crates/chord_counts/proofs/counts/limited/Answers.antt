@@ -8,9 +8,9 @@ use Rattle.chord_counts.proofs.counts.limited.Goals as goal
 pub truncating_f64_to_u64-requires : goal.truncating_f64_to_u64-requires
 unfolding of_bits neg
 truncating_f64_to_u64-requires c = record {
-      lower_bound = yes c.if-x.true;
-      upper_bound = fits_u64 _ _ (omega arith) (yes c.if-x-limit.true);
-    }
+  lower_bound = yes c.if-x.true;
+  upper_bound = fits_u64 _ _ (omega arith) (yes c.if-x-limit.true);
+}
 
 pub overflow_cast-result : goal.overflow_cast-result
 overflow_cast-result c = omega (arith, c.truncating_f64_to_u64.ensures, at_most _ _ (omega arith) (yes c.if-x-limit.true))
@@ -18,20 +18,20 @@ overflow_cast-result c = omega (arith, c.truncating_f64_to_u64.ensures, at_most 
 pub returns-then-x : goal.returns-then-x
 unfolding limited_c
 returns-then-x c = record {
-      refusal = simp c.if-x-limit.true;
-      value = simp (c.truncating_f64_to_u64.ensures, c.if-x-limit.true);
-    }
+  refusal = simp c.if-x-limit.true;
+  value = simp (c.truncating_f64_to_u64.ensures, c.if-x-limit.true);
+}
 
 pub returns-else-x : goal.returns-else-x
 unfolding limited_c
 returns-else-x c = record {
-      refusal = simp c.if-x-limit.true;
-      value = simp (none_left _ c.if-x.false, c.if-x-limit.true);
-    }
+  refusal = simp c.if-x-limit.true;
+  value = simp (none_left _ c.if-x.false, c.if-x-limit.true);
+}
 
 pub returns-else-x-limit : goal.returns-else-x-limit
 unfolding limited_c
 returns-else-x-limit c = record {
-      refusal = simp c.if-x-limit.false;
-      value = simp c.if-x-limit.false;
-    }
+  refusal = simp c.if-x-limit.false;
+  value = simp c.if-x-limit.false;
+}

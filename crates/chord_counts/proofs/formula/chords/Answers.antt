@@ -7,13 +7,13 @@ use Rattle.chord_counts.proofs.formula.chords.Goals as goal
 pub returns-then-chord-radius : goal.returns-then-chord-radius
 unfolding chords_c
 returns-then-chord-radius c = record {
-      refusal = simp (c.quotient.ensures.refusal, c.quotient.ensures.value, c.if-chord-radius.true, checked_rules, vectors_rules);
-      value = simp (c.quotient.ensures.value, c.if-chord-radius.true);
-    }
+  refusal = simp (c.quotient.ensures.refusal, c.quotient.ensures.value, c.if-chord-radius.true, checked_rules, vectors_rules);
+  value = simp (c.quotient.ensures.value, c.if-chord-radius.true);
+}
 
 pub returns-else-chord-radius : goal.returns-else-chord-radius
 unfolding chords_c
 returns-else-chord-radius c = record {
-      refusal = simp (c.if-chord-radius.false, checked_rules, vectors_rules);
-      value = simp c.if-chord-radius.false;
-    }
+  refusal = simp (c.if-chord-radius.false, checked_rules, vectors_rules);
+  value = simp c.if-chord-radius.false;
+}

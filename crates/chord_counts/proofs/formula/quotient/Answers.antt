@@ -7,6 +7,6 @@ use Rattle.chord_counts.proofs.formula.quotient.Goals as goal
 pub returns : goal.returns
 unfolding quotient_c
 returns c = record {
-      refusal = simp (c.note-2.ensures, c.note.ensures, c.acos-a.ensures, checked_rules, vectors_rules);
-      value = simp c.acos-a.ensures;
-    }
+  refusal = simp (c.note-2.ensures, c.note.ensures, c.acos-a.ensures, checked_rules, vectors_rules);
+  value = simp c.acos-a.ensures;
+}

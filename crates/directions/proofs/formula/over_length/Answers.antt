@@ -8,6 +8,6 @@ use Rattle.directions.proofs.formula.over_length.Goals as goal
 pub returns : goal.returns
 unfolding over_length_c
 returns c = record {
-      refusal = (simp (c.noted.ensures, c.note.ensures, c.times-u.ensures, c.length-l.ensures, first_assoc, zero_first)) ∙ sym (over_length_refusal c.args.v);
-      value = simp (c.times-u.ensures, c.length-l.ensures);
-    }
+  refusal = (simp (c.noted.ensures, c.note.ensures, c.times-u.ensures, c.length-l.ensures, first_assoc, zero_first)) ∙ sym (over_length_refusal c.args.v);
+  value = simp (c.times-u.ensures, c.length-l.ensures);
+}

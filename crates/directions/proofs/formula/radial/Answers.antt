@@ -8,6 +8,6 @@ use Rattle.directions.proofs.formula.radial.Goals as goal
 pub returns : goal.returns
 unfolding radial_c
 returns c = record {
-      refusal = (simp (c.unit.ensures.refusal, c.unit.ensures.value, c.across.ensures, c.minus.ensures, first_assoc, zero_first)) ∙ sym (radial_refusal c.args.origin c.args.axis c.args.p);
-      value = simp (c.unit.ensures.value, c.across.ensures, c.minus.ensures);
-    }
+  refusal = (simp (c.unit.ensures.refusal, c.unit.ensures.value, c.across.ensures, c.minus.ensures, first_assoc, zero_first)) ∙ sym (radial_refusal c.args.origin c.args.axis c.args.p);
+  value = simp (c.unit.ensures.value, c.across.ensures, c.minus.ensures);
+}

@@ -7,6 +7,6 @@ use Rattle.face_paths.proofs.arc_paths.arc_path_at.Goals as goal
 pub returns : goal.returns
 unfolding arc_path_at
 returns c = record {
-      refusal = simp (c.note.ensures, checked_rules);
-      value = refl;
-    }
+  refusal = simp (c.note.ensures, checked_rules);
+  value = refl;
+}

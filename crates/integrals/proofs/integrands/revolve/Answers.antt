@@ -8,6 +8,6 @@ use Rattle.integrals.proofs.integrands.revolve.Goals as goal
 pub returns : goal.returns
 unfolding revolved_c
 returns c = record {
-      refusal = (simp (c.note.ensures, c.noted.ensures, c.sqrt-stretch.ensures, c.minus-p0.ensures, c.own_frame-f.ensures.refusal, c.own_frame-f.ensures.value, first_assoc)) ∙ sym (revolved_refusal c.args.c c.args.o);
-      value = simp (c.sqrt-stretch.ensures, c.minus-p0.ensures, c.own_frame-f.ensures.value);
-    }
+  refusal = (simp (c.note.ensures, c.noted.ensures, c.sqrt-stretch.ensures, c.minus-p0.ensures, c.own_frame-f.ensures.refusal, c.own_frame-f.ensures.value, first_assoc)) ∙ sym (revolved_refusal c.args.c c.args.o);
+  value = simp (c.sqrt-stretch.ensures, c.minus-p0.ensures, c.own_frame-f.ensures.value);
+}

@@ -11,13 +11,13 @@ sine-requires c = yes (sym c.is_within.ensures ∙ c.if-is_within.true)
 pub returns-then-is_within : goal.returns-then-is_within
 unfolding sine_or_zero
 returns-then-is_within c = record {
-      refusal = sym (meets_none _ (sym c.is_within.ensures ∙ c.if-is_within.true));
-      value = simp (c.sine.ensures, sym c.is_within.ensures ∙ c.if-is_within.true);
-    }
+  refusal = sym (meets_none _ (sym c.is_within.ensures ∙ c.if-is_within.true));
+  value = simp (c.sine.ensures, sym c.is_within.ensures ∙ c.if-is_within.true);
+}
 
 pub returns-else-is_within : goal.returns-else-is_within
 unfolding sine_or_zero
 returns-else-is_within c = record {
-      refusal = c.angle_refusal.ensures;
-      value = simp (sym c.is_within.ensures ∙ c.if-is_within.false);
-    }
+  refusal = c.angle_refusal.ensures;
+  value = simp (sym c.is_within.ensures ∙ c.if-is_within.false);
+}

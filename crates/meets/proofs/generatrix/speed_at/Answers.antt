@@ -8,6 +8,6 @@ use Rattle.meets.proofs.generatrix.speed_at.Goals as goal
 pub returns : goal.returns
 unfolding first_derivatives_c
 returns c = record {
-      refusal = (simp (c.note.ensures, c.dot-c1.ensures, c.dot-b1.ensures, c.across-w1.ensures, c.times-d1.ensures, c.minus.ensures, c.times-2.ensures, c.times.ensures, zero_first)) ∙ sym (speed_refusal c.args.p c.args.h);
-      value = simp (c.dot-c1.ensures, c.dot-b1.ensures, c.across-w1.ensures, c.times-d1.ensures, c.minus.ensures, c.times-2.ensures, c.times.ensures);
-    }
+  refusal = (simp (c.note.ensures, c.dot-c1.ensures, c.dot-b1.ensures, c.across-w1.ensures, c.times-d1.ensures, c.minus.ensures, c.times-2.ensures, c.times.ensures, zero_first)) ∙ sym (speed_refusal c.args.p c.args.h);
+  value = simp (c.dot-c1.ensures, c.dot-b1.ensures, c.across-w1.ensures, c.times-d1.ensures, c.minus.ensures, c.times-2.ensures, c.times.ensures);
+}

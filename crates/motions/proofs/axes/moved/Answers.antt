@@ -8,6 +8,6 @@ use Rattle.motions.proofs.axes.moved.Goals as goal
 pub returns : goal.returns
 unfolding moved_c
 returns c = record {
-      refusal = simp (c.noted-2.ensures, c.noted.ensures, c.apply_vector-a.ensures, c.apply-o.ensures, checked_rules, vectors_rules, motions_rules);
-      value = simp (c.apply_vector-a.ensures, c.apply-o.ensures);
-    }
+  refusal = simp (c.noted-2.ensures, c.noted.ensures, c.apply_vector-a.ensures, c.apply-o.ensures, checked_rules, vectors_rules, motions_rules);
+  value = simp (c.apply_vector-a.ensures, c.apply-o.ensures);
+}

@@ -7,13 +7,13 @@ use Rattle.piece_boxes.proofs.brackets.bracketed.Goals as goal
 pub returns-then-agree : goal.returns-then-agree
 unfolding bracket_c
 returns-then-agree c = record {
-      refusal = simp (c.if-agree.true, ← c.agree.ensures, checked_rules, windows_rules);
-      value = simp (c.if-agree.true, ← c.agree.ensures);
-    }
+  refusal = simp (c.if-agree.true, ← c.agree.ensures, checked_rules, windows_rules);
+  value = simp (c.if-agree.true, ← c.agree.ensures);
+}
 
 pub returns-else-agree : goal.returns-else-agree
 unfolding bracket_c
 returns-else-agree c = record {
-      refusal = simp (c.earlier.ensures, c.note-else-agree.ensures, c.note.ensures, c.turning-p.ensures.refusal, c.if-agree.false, ← c.agree.ensures, checked_rules, windows_rules);
-      value = simp (c.widen.ensures, c.turning-p.ensures.value, c.if-agree.false, ← c.agree.ensures);
-    }
+  refusal = simp (c.earlier.ensures, c.note-else-agree.ensures, c.note.ensures, c.turning-p.ensures.refusal, c.if-agree.false, ← c.agree.ensures, checked_rules, windows_rules);
+  value = simp (c.widen.ensures, c.turning-p.ensures.value, c.if-agree.false, ← c.agree.ensures);
+}

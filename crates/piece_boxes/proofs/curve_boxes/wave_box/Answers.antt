@@ -6,6 +6,6 @@ use Rattle.piece_boxes.proofs.curve_boxes.wave_box.Goals as goal
 pub returns : goal.returns
 unfolding wave_c
 returns c = record {
-      refusal = simp (c.range-v.ensures.refusal, checked_rules);
-      value = simp (c.greatest.ensures, c.least.ensures, c.range-v.ensures.value);
-    }
+  refusal = simp (c.range-v.ensures.refusal, checked_rules);
+  value = simp (c.greatest.ensures, c.least.ensures, c.range-v.ensures.value);
+}

@@ -8,6 +8,6 @@ use Rattle.piece_lengths.proofs.counts.off.Goals as goal
 pub returns : goal.returns
 unfolding off_c
 returns c = record {
-      refusal = (simp (c.note-4.ensures, c.note-3.ensures, c.note-2.ensures, c.note.ensures, c.sqrt.ensures, first_assoc, zero_first)) ∙ sym (off_refusal c.args.length c.args.amp c.args.n c.args.deviation);
-      value = simp c.sqrt.ensures;
-    }
+  refusal = (simp (c.note-4.ensures, c.note-3.ensures, c.note-2.ensures, c.note.ensures, c.sqrt.ensures, first_assoc, zero_first)) ∙ sym (off_refusal c.args.length c.args.amp c.args.n c.args.deviation);
+  value = simp c.sqrt.ensures;
+}

@@ -9,16 +9,16 @@ use Rattle.piece_lengths.proofs.measures.measure_of.Goals as goal
 pub returns-in-Straight : goal.returns-in-Straight
 unfolding measure_c
 returns-in-Straight c = record {
-      refusal = simp (c.segment.ensures.refusal, c.in-Straight.is);
-      value = simp (c.segment.ensures.value, c.in-Straight.is);
-    }
+  refusal = simp (c.segment.ensures.refusal, c.in-Straight.is);
+  value = simp (c.segment.ensures.value, c.in-Straight.is);
+}
 
 pub returns-in-Arc : goal.returns-in-Arc
 unfolding measure_c
 returns-in-Arc c = record {
-      refusal = simp (c.arc_measure.ensures.refusal, c.in-Arc.is);
-      value = simp (c.arc_measure.ensures.value, c.in-Arc.is);
-    }
+  refusal = simp (c.arc_measure.ensures.refusal, c.in-Arc.is);
+  value = simp (c.arc_measure.ensures.value, c.in-Arc.is);
+}
 
 pub returns-in-Wave : goal.returns-in-Wave
 returns-in-Wave c =

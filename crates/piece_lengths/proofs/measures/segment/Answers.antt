@@ -6,6 +6,6 @@ use Rattle.piece_lengths.proofs.measures.segment.Goals as goal
 pub returns : goal.returns
 unfolding segment_c
 returns c = record {
-      refusal = simp (c.distance-d.ensures.refusal, checked_rules);
-      value = simp c.distance-d.ensures.value;
-    }
+  refusal = simp (c.distance-d.ensures.refusal, checked_rules);
+  value = simp c.distance-d.ensures.value;
+}

@@ -7,6 +7,6 @@ use Rattle.piece_lengths.proofs.measures.wave_place.Goals as goal
 pub returns : goal.returns
 unfolding place_c at_c
 returns c = record {
-      refusal = simp (c.earlier.ensures, c.note.ensures, c.wave_at-p.ensures.refusal, checked_rules);
-      value = simp c.wave_at-p.ensures.value;
-    }
+  refusal = simp (c.earlier.ensures, c.note.ensures, c.wave_at-p.ensures.refusal, checked_rules);
+  value = simp c.wave_at-p.ensures.value;
+}

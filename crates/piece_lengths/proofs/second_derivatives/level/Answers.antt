@@ -8,6 +8,6 @@ use Rattle.piece_lengths.proofs.second_derivatives.level.Goals as goal
 pub returns : goal.returns
 unfolding level_c
 returns c = record {
-      refusal = (simp (c.note-2.ensures, c.note.ensures, zero_first)) ∙ sym (level_refusal c.args.p c.args.a c.args.t);
-      value = refl;
-    }
+  refusal = (simp (c.note-2.ensures, c.note.ensures, zero_first)) ∙ sym (level_refusal c.args.p c.args.a c.args.t);
+  value = refl;
+}

@@ -8,12 +8,12 @@ use Rattle.pieces.proofs.formula.measure.Goals as goal
 pub returns-in-Without : goal.returns-in-Without
 unfolding run_c runs.curve_c kind_c
 returns-in-Without c = record {
-      refusal = simp (c.untraced_measure.ensures.refusal, c.in-Without.is, zero_first);
-      value = simp (c.untraced_measure.ensures.value, c.in-Without.is);
-    }
+  refusal = simp (c.untraced_measure.ensures.refusal, c.in-Without.is, zero_first);
+  value = simp (c.untraced_measure.ensures.value, c.in-Without.is);
+}
 
 pub returns-in-With : goal.returns-in-With
 returns-in-With c = record {
-      refusal = c.run_measure.ensures.refusal;
-      value = c.run_measure.ensures.value;
-    }
+  refusal = c.run_measure.ensures.refusal;
+  value = c.run_measure.ensures.value;
+}

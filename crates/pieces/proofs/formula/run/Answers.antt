@@ -5,6 +5,6 @@ use Rattle.pieces.proofs.formula.run.Goals as goal
 pub returns : goal.returns
 unfolding run_c
 returns c = record {
-      refusal = simp c.curve_of.ensures.refusal;
-      value = simp c.curve_of.ensures.value;
-    }
+  refusal = simp c.curve_of.ensures.refusal;
+  value = simp c.curve_of.ensures.value;
+}

@@ -14,7 +14,6 @@ use Rattle.waves.specs.TurningPoints.{TURNING_POINTS, inside_c, taken_c, turns_c
 use Rattle.waves.specs.TurningPointsLaws.{inside_value, inside_refusal, step_refusal}
 use Rattle.waves.proofs.turning_points.turns.Goals as goal
 
-
 pub loop-k-init : goal.loop-k-init
 loop-k-init c = remains_whole _
 
