@@ -28,7 +28,7 @@ use Rattle.traces.specs.declared.Trace.TheVariants as trace
 use Rattle.piece_curves.specs.declared.meet_curves.MeetCurve.{MeetCurve}
 use Rattle.piece_curves.specs.declared.PieceArc.{PieceArc}
 use Rattle.piece_curves.specs.declared.PieceTrace.{PieceTrace}
-use Rattle.piece_curves.specs.declared.PieceTrace.TheVariants as piece_trace_lem
+use Rattle.piece_curves.specs.declared.PieceTrace.TheVariants as trace_variants
 use Rattle.piece_curves.specs.declared.CurveKind.{CurveKind}
 use Rattle.piece_curves.specs.declared.CurveKind.TheVariants as way
 use Rattle.piece_curves.specs.declared.PieceCurve.{PieceCurve}
@@ -233,9 +233,9 @@ own_turn_met (way.Meet c) rho chord = none_met
 
 kind_met : (from to : Vec2) (n : Float) (arc : PieceArc) (t : PieceTrace) → Met (kind_c from to n arc t)
 unfolding kind_c traced_c meet_kind_c
-kind_met from to n arc piece_trace_lem.Without = none_met
-kind_met from to n arc (piece_trace_lem.With (trace.Wave w)) = none_met
-kind_met from to n arc (piece_trace_lem.With (trace.Meet m)) = first_met _ _ (pipe_met m n) none_met
+kind_met from to n arc trace_variants.Without = none_met
+kind_met from to n arc (trace_variants.With (trace.Wave w)) = none_met
+kind_met from to n arc (trace_variants.With (trace.Meet m)) = first_met _ _ (pipe_met m n) none_met
 
 pub chords_of_met : (w : RolledAt) (chord : Float) → Met (chords_of w chord)
 unfolding chords_of run_c curve_c counts.chords_c

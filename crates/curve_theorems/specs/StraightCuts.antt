@@ -27,8 +27,8 @@ use Rattle.vectors.specs.Vectors.{origin, plane, space, within2, within3}
 use Rattle.developments.specs.Developments.{development_within}
 use Rattle.arc_theorems.specs.Sizes.{nine_none}
 use Rattle.piece_curves.specs.declared.meet_curves.Place.{Place}
-use Rattle.piece_curves.specs.declared.PieceArc.TheVariants as piece_arc_lem
-use Rattle.piece_curves.specs.declared.PieceTrace.TheVariants as piece_trace_lem
+use Rattle.piece_curves.specs.declared.PieceArc.TheVariants as arc_variants
+use Rattle.piece_curves.specs.declared.PieceTrace.TheVariants as trace_variants
 use Rattle.piece_curves.specs.declared.CurveKind.TheVariants as way
 use Rattle.piece_curves.specs.PieceCurves.{curve_c, kind_c, untraced, curve_by}
 use Rattle.piece_curves.specs.Points.{straight_c, at_c}
@@ -42,8 +42,8 @@ use Rattle.pieces.specs.Entries.{piece_within, tests, at_due, uv_box_due}
 
 -- a piece with neither an arc nor a trace, whose ends have f64 numbers for coordinates
 pub record Straight (p : Rolled) : Type 0 where
-  pub arc : p.arc ≡ piece_arc_lem.Without
-  pub trace : p.trace ≡ piece_trace_lem.Without
+  pub arc : p.arc ≡ arc_variants.Without
+  pub trace : p.trace ≡ trace_variants.Without
   pub from_u : F64 p.from.x
   pub from_v : F64 p.from.y
   pub to_u : F64 p.to.x
@@ -169,8 +169,8 @@ piece = record {
   dev = record { origin = origin; axis = space zero zero one; start = space one zero zero; neutral = one };
   from = plane (neg limit) zero;
   to = plane below_limit zero;
-  arc = piece_arc_lem.Without;
-  trace = piece_trace_lem.Without;
+  arc = arc_variants.Without;
+  trace = trace_variants.Without;
 }
 
 piece_straight : Straight piece

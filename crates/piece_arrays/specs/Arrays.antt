@@ -8,9 +8,9 @@ use Rattle.meets.specs.declared.Meet.{Meet}
 use Rattle.traces.specs.declared.Trace.{Trace}
 use Rattle.traces.specs.declared.Trace.TheVariants as trace
 use Rattle.piece_curves.specs.declared.PieceArc.{PieceArc}
-use Rattle.piece_curves.specs.declared.PieceArc.TheVariants as piece_arc_lem
+use Rattle.piece_curves.specs.declared.PieceArc.TheVariants as arc_variants
 use Rattle.piece_curves.specs.declared.PieceTrace.{PieceTrace}
-use Rattle.piece_curves.specs.declared.PieceTrace.TheVariants as piece_trace_lem
+use Rattle.piece_curves.specs.declared.PieceTrace.TheVariants as trace_variants
 use Rattle.pieces.specs.declared.Rolled.{Rolled}
 use Rattle.c_arrays.specs.Records.{vec2_at, over}
 use Rattle.c_arrays.specs.DevelopmentRecords.{development_at, of_development}
@@ -41,10 +41,10 @@ is_piece arc trace = leb arc 2 && leb trace 3
 
 -- the arc about a centre
 abbrev pub piece_arc : ℕ → Vec2 → PieceArc
-piece_arc tag c = cond (eqb tag 0) piece_arc_lem.Without (piece_arc_lem.With (record { center = c; ccw = eqb tag 1 }))
+piece_arc tag c = cond (eqb tag 0) arc_variants.Without (arc_variants.With (record { center = c; ccw = eqb tag 1 }))
 
 abbrev pub piece_trace : List Float → ℕ → PieceTrace
-piece_trace l tag = cond (eqb tag 0) piece_trace_lem.Without (piece_trace_lem.With (trace_at l TRACE tag))
+piece_trace l tag = cond (eqb tag 0) trace_variants.Without (trace_variants.With (trace_at l TRACE tag))
 
 abbrev pub piece : List Float → ℕ → ℕ → Rolled
 piece l arc trace = record {
@@ -58,8 +58,8 @@ piece l arc trace = record {
 -- ---- the tags of a piece
 -- 0 none, 1 counterclockwise, 2 clockwise
 unfoldable pub arc_tag : PieceArc → ℕ
-arc_tag piece_arc_lem.Without = 0
-arc_tag (piece_arc_lem.With a) = cond a.ccw 1 2
+arc_tag arc_variants.Without = 0
+arc_tag (arc_variants.With a) = cond a.ccw 1 2
 
 -- 2 a meet without `turn`, 3 a meet with it
 unfoldable pub turn_tag : Turn → ℕ
@@ -68,9 +68,9 @@ turn_tag (turn.Angles f g) = 3
 
 -- 0 none, 1 a wave, else a meet's
 unfoldable pub trace_tag : PieceTrace → ℕ
-trace_tag piece_trace_lem.Without = 0
-trace_tag (piece_trace_lem.With (trace.Wave w)) = 1
-trace_tag (piece_trace_lem.With (trace.Meet m)) = turn_tag m.turn
+trace_tag trace_variants.Without = 0
+trace_tag (trace_variants.With (trace.Wave w)) = 1
+trace_tag (trace_variants.With (trace.Meet m)) = turn_tag m.turn
 
 abbrev pub tags_of : Rolled → List ℕ
 tags_of p = arc_tag p.arc ∷ trace_tag p.trace ∷ []
@@ -81,8 +81,8 @@ of_ends from to = from.x ∷ from.y ∷ to.x ∷ to.y ∷ []
 
 -- the arc's centre, where there is one
 unfoldable pub of_centre : PieceArc → List Float
-of_centre piece_arc_lem.Without = []
-of_centre (piece_arc_lem.With a) = a.center.x ∷ a.center.y ∷ []
+of_centre arc_variants.Without = []
+of_centre (arc_variants.With a) = a.center.x ∷ a.center.y ∷ []
 
 -- the two angles, where there are two
 unfoldable pub of_turn : Turn → List Float
@@ -98,9 +98,9 @@ of_meet m = of_cylinder m ++ of_turn m.turn
 
 -- a wave's a, b, c, or a meet's numbers, where there is a trace
 unfoldable pub of_trace : PieceTrace → List Float
-of_trace piece_trace_lem.Without = []
-of_trace (piece_trace_lem.With (trace.Wave w)) = w.a ∷ w.b ∷ w.c ∷ []
-of_trace (piece_trace_lem.With (trace.Meet m)) = of_meet m
+of_trace trace_variants.Without = []
+of_trace (trace_variants.With (trace.Wave w)) = w.a ∷ w.b ∷ w.c ∷ []
+of_trace (trace_variants.With (trace.Meet m)) = of_meet m
 
 -- each part at its place over what the array held
 unfoldable pub with_piece : List Float → Rolled → List Float

@@ -10,9 +10,9 @@ use Rattle.meets.specs.declared.Turn.TheVariants as turn
 use Rattle.meets.specs.declared.Meet.{Meet}
 use Rattle.traces.specs.declared.Trace.TheVariants as trace
 use Rattle.piece_curves.specs.declared.PieceArc.{PieceArc}
-use Rattle.piece_curves.specs.declared.PieceArc.TheVariants as piece_arc_lem
+use Rattle.piece_curves.specs.declared.PieceArc.TheVariants as arc_variants
 use Rattle.piece_curves.specs.declared.PieceTrace.{PieceTrace}
-use Rattle.piece_curves.specs.declared.PieceTrace.TheVariants as piece_trace_lem
+use Rattle.piece_curves.specs.declared.PieceTrace.TheVariants as trace_variants
 use Rattle.pieces.specs.declared.Rolled.{Rolled}
 use Rattle.c_arrays.specs.Records.{over}
 use Rattle.piece_arrays.specs.Arrays.{piece, arc_tag, turn_tag, trace_tag, of_centre, of_turn, of_meet, of_trace, with_piece}
@@ -29,21 +29,21 @@ module _ (a0 a1 a2 a3 a4 a5 a6 a7 a8 a9 a10 a11 a12 a13 a14 a15 a16 a17 a18 a19 
     rolled a t = record { dev = dev; from = from; to = to; arc = a; trace = t }
 
     abbrev bow : Vec2 → Bool → PieceArc
-    bow c ccw = piece_arc_lem.With (record { center = c; ccw = ccw })
+    bow c ccw = arc_variants.With (record { center = c; ccw = ccw })
 
     abbrev hole : Vec3 → Vec3 → Float → Float → Turn → PieceTrace
-    hole o x r own k = piece_trace_lem.With (trace.Meet (record { origin = o; axis = x; radius = r; own = own; turn = k }))
+    hole o x r own k = trace_variants.With (trace.Meet (record { origin = o; axis = x; radius = r; own = own; turn = k }))
 
-    bare_hole : (o x : Vec3) (r own : Float) (k : Turn) → Back (rolled piece_arc_lem.Without (hole o x r own k))
+    bare_hole : (o x : Vec3) (r own : Float) (k : Turn) → Back (rolled arc_variants.Without (hole o x r own k))
     unfolding with_piece over arc_tag trace_tag turn_tag of_centre of_trace of_meet of_turn
     bare_hole o x r own turn.Without = refl
     bare_hole o x r own (turn.Angles f g) = refl
 
-    bare : (t : PieceTrace) → Back (rolled piece_arc_lem.Without t)
+    bare : (t : PieceTrace) → Back (rolled arc_variants.Without t)
     unfolding with_piece over arc_tag trace_tag of_centre of_trace
-    bare piece_trace_lem.Without = refl
-    bare (piece_trace_lem.With (trace.Wave w)) = refl
-    bare (piece_trace_lem.With (trace.Meet m)) = bare_hole m.origin m.axis m.radius m.own m.turn
+    bare trace_variants.Without = refl
+    bare (trace_variants.With (trace.Wave w)) = refl
+    bare (trace_variants.With (trace.Meet m)) = bare_hole m.origin m.axis m.radius m.own m.turn
 
     bowed_hole : (c : Vec2) (ccw : Bool) (o x : Vec3) (r own : Float) (k : Turn) → Back (rolled (bow c ccw) (hole o x r own k))
     unfolding with_piece over arc_tag trace_tag turn_tag of_centre of_trace of_meet of_turn
@@ -54,15 +54,15 @@ module _ (a0 a1 a2 a3 a4 a5 a6 a7 a8 a9 a10 a11 a12 a13 a14 a15 a16 a17 a18 a19 
 
     bowed : (c : Vec2) (ccw : Bool) (t : PieceTrace) → Back (rolled (bow c ccw) t)
     unfolding with_piece over arc_tag trace_tag of_centre of_trace
-    bowed c true piece_trace_lem.Without = refl
-    bowed c true (piece_trace_lem.With (trace.Wave w)) = refl
-    bowed c false piece_trace_lem.Without = refl
-    bowed c false (piece_trace_lem.With (trace.Wave w)) = refl
-    bowed c ccw (piece_trace_lem.With (trace.Meet m)) = bowed_hole c ccw m.origin m.axis m.radius m.own m.turn
+    bowed c true trace_variants.Without = refl
+    bowed c true (trace_variants.With (trace.Wave w)) = refl
+    bowed c false trace_variants.Without = refl
+    bowed c false (trace_variants.With (trace.Wave w)) = refl
+    bowed c ccw (trace_variants.With (trace.Meet m)) = bowed_hole c ccw m.origin m.axis m.radius m.own m.turn
 
     each : (a : PieceArc) (t : PieceTrace) → Back (rolled a t)
-    each piece_arc_lem.Without t = bare t
-    each (piece_arc_lem.With a) t = bowed a.center a.ccw t
+    each arc_variants.Without t = bare t
+    each (arc_variants.With a) t = bowed a.center a.ccw t
 
   pub read_back : (p : Rolled) → Back p
   read_back p = each p.dev p.from p.to p.arc p.trace

@@ -8,9 +8,9 @@ use Rattle.meets.specs.Meets.{pipe_c}
 use Rattle.traces.specs.declared.Trace.{Trace}
 use Rattle.traces.specs.declared.Trace.TheVariants as trace
 use Rattle.piece_curves.specs.declared.PieceArc.{PieceArc}
-use Rattle.piece_curves.specs.declared.PieceArc.TheVariants as piece_arc_lem
+use Rattle.piece_curves.specs.declared.PieceArc.TheVariants as arc_variants
 use Rattle.piece_curves.specs.declared.PieceTrace.{PieceTrace}
-use Rattle.piece_curves.specs.declared.PieceTrace.TheVariants as piece_trace_lem
+use Rattle.piece_curves.specs.declared.PieceTrace.TheVariants as trace_variants
 use Rattle.piece_curves.specs.declared.CurveKind.{CurveKind}
 use Rattle.piece_curves.specs.declared.CurveKind.TheVariants as way
 use Rattle.piece_curves.specs.declared.PieceCurve.{PieceCurve}
@@ -34,14 +34,14 @@ traced_c from to n (trace.Meet m) = meet_kind_c from to n m
 
 -- without a trace: along an arc, or straight on
 unfoldable pub untraced : PieceArc → CurveKind
-untraced (piece_arc_lem.With a) = way.Arc a
-untraced piece_arc_lem.Without = way.Straight
+untraced (arc_variants.With a) = way.Arc a
+untraced arc_variants.Without = way.Straight
 
 -- a piece with both is refused where it is handed in, so which of the two goes first makes no
 -- difference
 unfoldable pub kind_c : Vec2 → Vec2 → Float → PieceArc → PieceTrace → Checked CurveKind
-kind_c from to n arc (piece_trace_lem.With t) = traced_c from to n t
-kind_c from to n arc piece_trace_lem.Without = given (untraced arc)
+kind_c from to n arc (trace_variants.With t) = traced_c from to n t
+kind_c from to n arc trace_variants.Without = given (untraced arc)
 
 -- a piece ready to be followed
 unfoldable pub curve_c : Vec2 → Vec2 → Float → PieceArc → PieceTrace → Checked PieceCurve

@@ -17,9 +17,9 @@ use Rattle.traces.specs.declared.Trace.TheVariants as trace
 use Rattle.piece_curves.specs.MeetCurves.{meet_curve_of, slope_u_c, slope_v_c}
 use Rattle.developments.specs.Formulas.{radial_at_c, along_c}
 use Rattle.piece_curves.specs.declared.PieceArc.{PieceArc}
-use Rattle.piece_curves.specs.declared.PieceArc.TheVariants as piece_arc_lem
+use Rattle.piece_curves.specs.declared.PieceArc.TheVariants as arc_variants
 use Rattle.piece_curves.specs.declared.PieceTrace.{PieceTrace}
-use Rattle.piece_curves.specs.declared.PieceTrace.TheVariants as piece_trace_lem
+use Rattle.piece_curves.specs.declared.PieceTrace.TheVariants as trace_variants
 use Rattle.piece_normals.specs.Directions.{gradient_c, facing, side_c}
 
 -- ---- the direction of a piece at p
@@ -86,13 +86,13 @@ traced_c (trace.Meet m) from to n p = meet_c m from to n p
 
 -- without an arc: along the trace, or straight on
 unfoldable pub without_arc_c : PieceTrace → Vec2 → Vec2 → Float → Vec2 → Checked Vec2
-without_arc_c (piece_trace_lem.With t) from to n p = traced_c t from to n p
-without_arc_c piece_trace_lem.Without from to n p = straight_c from to
+without_arc_c (trace_variants.With t) from to n p = traced_c t from to n p
+without_arc_c trace_variants.Without from to n p = straight_c from to
 
 -- an arc goes first, as in the Rust; a piece with both is refused where it is handed in
 unfoldable pub direction_c : PieceArc → PieceTrace → Vec2 → Vec2 → Float → Vec2 → Checked Vec2
-direction_c (piece_arc_lem.With a) trace' from to n p = arc_c a p
-direction_c piece_arc_lem.Without trace' from to n p = without_arc_c trace' from to n p
+direction_c (arc_variants.With a) trace' from to n p = arc_c a p
+direction_c arc_variants.Without trace' from to n p = without_arc_c trace' from to n p
 
 -- ---- at r from the axis, where the piece has the direction d
 unfoldable pub normal_c : Vec3 → Vec3 → Float → Vec2 → Vec2 → Float → Checked Vec3

@@ -6,14 +6,14 @@ use Rattle.meets.specs.declared.Meet.{Meet}
 use Rattle.traces.specs.declared.Trace.{Trace}
 use Rattle.traces.specs.declared.Trace.TheVariants as trace
 use Rattle.piece_curves.specs.declared.PieceArc.{PieceArc}
-use Rattle.piece_curves.specs.declared.PieceArc.TheVariants as piece_arc_lem
+use Rattle.piece_curves.specs.declared.PieceArc.TheVariants as arc_variants
 use Rattle.piece_curves.specs.declared.PieceTrace.{PieceTrace}
-use Rattle.piece_curves.specs.declared.PieceTrace.TheVariants as piece_trace_lem
+use Rattle.piece_curves.specs.declared.PieceTrace.TheVariants as trace_variants
 
 -- the arc turns in the other sense
 unfoldable pub arc_back : PieceArc → PieceArc
-arc_back piece_arc_lem.Without = piece_arc_lem.Without
-arc_back (piece_arc_lem.With a) = piece_arc_lem.With (record { center = a.center; ccw = not a.ccw })
+arc_back arc_variants.Without = arc_variants.Without
+arc_back (arc_variants.With a) = arc_variants.With (record { center = a.center; ccw = not a.ccw })
 
 -- the two angles of a hole change places
 unfoldable pub turn_back : Turn → Turn
@@ -25,5 +25,5 @@ curve_back (trace.Wave w) = trace.Wave w
 curve_back (trace.Meet m) = trace.Meet (record { origin = m.origin; axis = m.axis; radius = m.radius; own = m.own; turn = turn_back m.turn })
 
 unfoldable pub trace_back : PieceTrace → PieceTrace
-trace_back piece_trace_lem.Without = piece_trace_lem.Without
-trace_back (piece_trace_lem.With t) = piece_trace_lem.With (curve_back t)
+trace_back trace_variants.Without = trace_variants.Without
+trace_back (trace_variants.With t) = trace_variants.With (curve_back t)

@@ -50,8 +50,8 @@ use Rattle.traces.specs.Traces.{some, meet_height_c, meet_c, v_c, trace_within, 
 use Rattle.libm.specs.Hypot as hypotenuse
 use Rattle.developments.specs.declared.Development.{Development}
 use Rattle.developments.specs.Developments.{development_within}
-use Rattle.piece_curves.specs.declared.PieceArc.TheVariants as piece_arc_lem
-use Rattle.piece_curves.specs.declared.PieceTrace.TheVariants as piece_trace_lem
+use Rattle.piece_curves.specs.declared.PieceArc.TheVariants as arc_variants
+use Rattle.piece_curves.specs.declared.PieceTrace.TheVariants as trace_variants
 use Rattle.piece_curves.specs.PieceCurves as runs
 use Rattle.piece_curves.specs.Points as run_points
 use Rattle.piece_lengths.specs.Measures.{distance_c}
@@ -163,13 +163,13 @@ abbrev sheet : Development
 sheet = record { origin = origin; axis = space zero zero one; start = space one zero zero; neutral = float 10 }
 
 abbrev straight : Rolled
-straight = record { dev = sheet; from = plane zero zero; to = plane (float 8) (float 4); arc = piece_arc_lem.Without; trace = piece_trace_lem.Without }
+straight = record { dev = sheet; from = plane zero zero; to = plane (float 8) (float 4); arc = arc_variants.Without; trace = trace_variants.Without }
 
 abbrev bow : Rolled
-bow = record { dev = sheet; from = plane five zero; to = plane zero five; arc = piece_arc_lem.With (record { center = plane zero zero; ccw = true }); trace = piece_trace_lem.Without }
+bow = record { dev = sheet; from = plane five zero; to = plane zero five; arc = arc_variants.With (record { center = plane zero zero; ccw = true }); trace = trace_variants.Without }
 
 abbrev level : Rolled
-level = record { dev = sheet; from = plane zero zero; to = plane (float 8) zero; arc = piece_arc_lem.Without; trace = piece_trace_lem.With (trace.Wave (record { a = zero; b = zero; c = zero })) }
+level = record { dev = sheet; from = plane zero zero; to = plane (float 8) zero; arc = arc_variants.Without; trace = trace_variants.With (trace.Wave (record { a = zero; b = zero; c = zero })) }
 
 -- 0.25
 abbrev quarter : Float
