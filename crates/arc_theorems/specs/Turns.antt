@@ -29,7 +29,8 @@ use Rattle.float_bounds.proofs.Intervals.{in_add, in_sub, in_finite}
 use Rattle.float_bounds.specs.Powers.{pow}
 use Rattle.float_bounds.proofs.Powers.{pow_finite, pow_mul, pow_add_of, pow_sub}
 use Rattle.arc_theorems.specs.Sizes.{Upto3, none, nine_none, three_none, apart2, within_upto3, minus3, dot3, cross3}
-use Rattle.libm_ranges.specs.Quadrants.{Angle, atan2_range, atan2_finite}
+use Rattle.libm_ranges.specs.Quadrants.{Angle}
+use Rattle.libm_ranges.proofs.Quadrants.{atan2_range, atan2_finite}
 use Rattle.libm_ranges.specs.Fitting.{atan2_fits}
 
 -- above 0 and at most 2π, or below 0 and at least −2π

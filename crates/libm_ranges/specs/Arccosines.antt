@@ -1,5 +1,5 @@
 -- A number from 0 to 1 is a cosine: its arccosine is finite. Assumes nothing.
-use Rattle.std.specs.Prelude.{◌≡◌, refl, Bool, true, cond, ℕ, suc, ◌+◌, ◌*◌, ◌/◌, ◌%◌, ◌^◌, ◌≤◌, ◌<◌, leb, ltb, eqb, negsuc, Float}
+use Rattle.std.specs.Prelude.{◌≡◌, refl, Bool, true, cond, ℕ, suc, ◌*◌, ◌/◌, ◌%◌, ◌^◌, ◌≤◌, ◌<◌, leb, ltb, eqb, negsuc, Float}
 use Rattle.std.proofs.Common.{sym, ltb→lt, lt→ltb, lit≤}
 use Rattle.std.proofs.Math.Path.{subst}
 use Rattle.std.proofs.Math.Bool.{false}
@@ -17,7 +17,6 @@ use Rattle.order.specs.Order.{le_trans_of, lt_not_le}
 use Rattle.float_bits.specs.FloatBits.{fabs, sign, size, ◌+ᶠ◌, ◌-ᶠ◌, ◌*ᶠ◌, ◌/ᶠ◌}
 use Rattle.float_bits.specs.Laws.{fabs_bits}
 use Rattle.float_bits.specs.Signs.{above_sign}
-use Rattle.rounding.specs.Root as Root
 use Rattle.libm.specs.Acos.{PIO2_HI, PIO2_LO, PS0, PS1, PS2, PS3, PS4, PS5, QS1, QS2, QS3, QS4, tiny, sqrt, ratio, at_one, acos_far, acos_near, acos_above, acos_below}
 use Rattle.libm.specs.Roots.{acos}
 use Rattle.float_bounds.specs.Parts.{nought}

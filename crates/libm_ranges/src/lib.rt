@@ -1,3 +1,3 @@
-// Theorems only: where the values of the elementary functions lie. See specs/.
+// Theorems only: where the values of the elementary functions lie. See specs/ and proofs/.
 
 #![tactic(auto)]

@@ -1,0 +1,2 @@
+pub mod Arctangents
+pub mod Quadrants
