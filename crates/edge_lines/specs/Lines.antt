@@ -1,7 +1,6 @@
 -- The line that the program prints, as bytes.
 use Rattle.std.specs.Prelude.{ℕ, List, [], ◌∷◌, ◌++◌, ℤ}
 use Prim.Native.Char.{code}
-use Prim.Native.String as String
 use Prim.Native.String.{String}
 use Rattle.checked.specs.Checked.{Due, due, refused}
 use Rattle.decimals.specs.Thousandths.{thousandths}

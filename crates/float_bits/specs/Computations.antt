@@ -1,6 +1,6 @@
 -- The magnitude, over computations, as the operators of `checked` are.
 use Rattle.std.specs.Prelude.{Float}
-use Rattle.checked.specs.Checked.{Checked, first, ◌>>=◌, finite}
+use Rattle.checked.specs.Checked.{Checked, ◌>>=◌, finite}
 use Rattle.float_bits.specs.FloatBits.{fabs}
 
 -- `x.abs()`

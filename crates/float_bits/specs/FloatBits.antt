@@ -1,6 +1,6 @@
 -- The operators on f64, each rounded once, and what libm's functions read of a number's bit pattern
 -- besides its high word. Definitions only.
-use Rattle.std.specs.Prelude.{ℕ, ◌/◌, ◌%◌, ◌^◌, Bool, true, false, cond, eqb, Float, if◌then◌else◌}
+use Rattle.std.specs.Prelude.{ℕ, ◌/◌, ◌%◌, ◌^◌, false, eqb, Float, if◌then◌else◌}
 use Rattle.std.specs.Float.{nan, inf, fin, binary64}
 use Rattle.std.specs.Float.Ieee.{add, sub, mul, div, neg}
 use Rattle.checked.specs.Patterns.{bits}

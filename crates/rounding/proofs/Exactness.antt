@@ -5,7 +5,7 @@
 use mathlib.Core.Path.{◌≡◌, refl, sym, ap, ◌∙◌, subst}
 use mathlib.Core.Bool.{Bool, true, false, cond}
 use Prim.Native.Nat.{ℕ, suc, ◌+◌, ◌-◌, ◌*◌, ◌/◌, ◌^◌, ◌≤◌, ◌<◌}
-use native.Mathlib.Nat.{le_trans, le_of_eq, lt_of_lt_of_le, mul-one, mul_comm, add-mul, one-mul, mul-le-mul_left, mul-pos, div-one, add-zero, div-le_self, div-lt_iff_lt-mul, zero-lt-suc}
+use native.Mathlib.Nat.{le_trans, le_of_eq, mul-one, mul_comm, add-mul, one-mul, mul-le-mul_left, mul-pos, div-one, add-zero, div-le_self, div-lt_iff_lt-mul, zero-lt-suc}
 use native.Mathlib.Omega.{arith}
 use lib.IntN.{ℤ, pos, negsuc}
 use lib.Dec.{T}

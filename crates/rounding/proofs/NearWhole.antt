@@ -2,12 +2,12 @@
 -- so x + 2 ^ 52 is rounded to one that is at most a half away (`whole_sum`), and taking 2 ^ 52 away
 -- again rounds nothing (`near_small`). Assumes nothing.
 use mathlib.Core.Path.{◌≡◌, refl, sym, ap, ◌∙◌, subst}
-use mathlib.Core.Bool.{Bool, true, false}
-use Prim.Native.Nat.{ℕ, zero, suc, ◌+◌, ◌-◌, ◌*◌, ◌/◌, ◌%◌, ◌^◌, ◌≤◌, ◌<◌, compare, Ordering}
-use native.Mathlib.Nat.{le_trans, le_of_eq, lt_of_lt_of_le, lt_of_le_of_lt, mul-one, one-mul, mul_assoc, mul_right_comm, mul-pos, mul-le-mul_right, mul-lt-mul_of_pos_right, lt_of_mul-lt-mul_right, le_of_mul-le-mul_right, suc-mul, add-mul, zero-lt-suc, div-lt_iff_lt-mul, le-div_iff_mul-le, div-add-mod', mod-lt}
+use mathlib.Core.Bool.{false}
+use Prim.Native.Nat.{ℕ, ◌+◌, ◌-◌, ◌*◌, ◌/◌, ◌%◌, ◌^◌, ◌≤◌, ◌<◌, compare, Ordering}
+use native.Mathlib.Nat.{le_trans, le_of_eq, lt_of_lt_of_le, mul-one, one-mul, mul_assoc, mul_right_comm, mul-pos, mul-le-mul_right, mul-lt-mul_of_pos_right, lt_of_mul-lt-mul_right, le_of_mul-le-mul_right, suc-mul, add-mul, zero-lt-suc, div-lt_iff_lt-mul, le-div_iff_mul-le, div-add-mod', mod-lt}
 use native.Mathlib.Omega.{arith}
-use lib.IntN.{ℤ, pos, negsuc}
-use lib.Dec.{T, lit≤, lit<}
+use lib.IntN.{ℤ, pos}
+use lib.Dec.{lit≤}
 use lib.Pow.{pow-add, pow_pos}
 use lib.Ieee.{Float, fin, binary64, up, down, size, nearest, units, round, add, sub, of_int}
 use lib.Ieee.Fits.{down_pos, round_is, core}

@@ -2,20 +2,20 @@
 -- root of x than `sqrt` of x. With R for the result and Y for any other value, both in units of 2 ^
 -- -1074, the root is on R's side of the middle (R + Y) / 2, which is said with both sides squared.
 -- Assumes nothing.
-use mathlib.Core.Path.{◌≡◌, refl, sym, ap, ◌∙◌, subst}
+use mathlib.Core.Path.{◌≡◌, sym, ap, ◌∙◌, subst}
 use mathlib.Core.Logic.{◌⊎◌, inl, inr}
-use mathlib.Core.Bool.{Bool, true, false, not, true≢false}
-use Prim.Native.Nat.{ℕ, zero, suc, ◌+◌, ◌-◌, ◌*◌, ◌/◌, ◌%◌, ◌^◌, ◌≤◌, ◌<◌}
-use native.Mathlib.Nat.{le_trans, le_of_eq, le_of_lt, lt_of_lt_of_le, lt_of_le_of_lt, lt_of_not-le, lt_irrefl, not-le_of_lt, le_of_suc-le-suc, mul-one, mul_comm, mul_assoc, mul_right_comm, mul-pos, add-mul, mul-le-mul_left, mul-le-mul_right, lt_of_mul-lt-mul_right, eq_of_mul-eq-mul_right, zero-lt-suc, eq-or-lt_of_le, div-one, zero-mul}
+use mathlib.Core.Bool.{false}
+use Prim.Native.Nat.{ℕ, suc, ◌+◌, ◌-◌, ◌*◌, ◌/◌, ◌%◌, ◌^◌, ◌≤◌, ◌<◌}
+use native.Mathlib.Nat.{le_trans, le_of_eq, le_of_lt, lt_of_lt_of_le, lt_of_le_of_lt, lt_of_not-le, lt_irrefl, le_of_suc-le-suc, mul-one, mul_assoc, mul-pos, add-mul, mul-le-mul_left, mul-le-mul_right, lt_of_mul-lt-mul_right, eq_of_mul-eq-mul_right, zero-lt-suc, eq-or-lt_of_le}
 use native.Mathlib.Omega.{arith}
 use native.Mathlib.Decide.{dec_le, ℕ_discrete}
 use lib.IntN.{ℤ, pos, negsuc}
-use lib.Dec.{T, leb, ltb, eqb, ltb→lt, lt→ltb, leb→le, lit≤}
+use lib.Dec.{T, lt→ltb}
 use lib.Pow.{pow-add, pow_pos, pow_mono, pow-lt, shl_lt}
-use lib.Ieee.{Float, nan, inf, fin, binary64, up, down, units, fits, lt, to_bits}
-use lib.Ieee.Fits.{down_pos, up_pos, and_l, and_r}
+use lib.Ieee.{Float, nan, inf, fin, binary64, up, down, fits, lt, to_bits}
+use lib.Ieee.Fits.{down_pos, up_pos}
 use lib.Ieee.Exact.{HasValue, units_val}
-use Rattle.rounding.specs.Root.{sqrt, round_root}
+use Rattle.rounding.specs.Root.{sqrt}
 use Rattle.rounding.specs.NearRoot.{NearRoot}
 use Rattle.rounding.specs.Values.{nought, fits_small, fits_low}
 use Rattle.rounding.proofs.Roots.{near_exists, middle_above, middle_below, squares_le, square_of, near_range, round_root_is}

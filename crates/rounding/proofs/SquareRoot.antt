@@ -3,17 +3,17 @@
 -- -1074, is the root of n * 4 ^ h, with n = m * 2 ^ (52 + e % 2) and h = e / 2 + 485, and the
 -- pattern that `root_bits` returns is its (`finish`). Assumes nothing.
 use mathlib.Core.Path.{◌≡◌, refl, sym, ap, ◌∙◌, subst}
-use mathlib.Core.Logic.{◌≢◌, ◌⊎◌, inl, inr}
-use mathlib.Core.Bool.{Bool, true, false, not, true≢false}
+use mathlib.Core.Logic.{inl, inr}
+use mathlib.Core.Bool.{true, false, not, true≢false}
 use Prim.Native.Nat.{ℕ, zero, suc, ◌+◌, ◌-◌, ◌*◌, ◌/◌, ◌%◌, ◌^◌, ◌≤◌, ◌<◌}
-use native.Mathlib.Nat.{le_trans, le_of_eq, le_of_lt, lt_of_lt_of_le, lt_of_le_of_lt, lt_of_not-le, lt_irrefl, le-add_right, zero-add, mul-one, mul_comm, mul_assoc, mul_left_comm, mul_right_comm, mul-pos, mul-le-mul_left, mul-le-mul_right, mul-lt-mul_of_pos_right, eq_of_mul-eq-mul_right, mod-lt, mod-eq_of_lt, zero-lt-suc, zero-mul, div-add-mod'}
+use native.Mathlib.Nat.{le_trans, le_of_eq, lt_of_lt_of_le, lt_of_le_of_lt, lt_of_not-le, lt_irrefl, le-add_right, zero-add, mul_assoc, mul_right_comm, mul-le-mul_left, mul-le-mul_right, eq_of_mul-eq-mul_right, mod-lt, mod-eq_of_lt}
 use native.Mathlib.Omega.{arith}
-use lib.IntN.{ℤ, pos, negsuc}
-use lib.Dec.{T, ltb, ltb→lt, lit≤, lit<}
-use lib.Pow.{pow-add, pow_pos, pow_mono, pow-lt, shl_lt, shl_exact}
+use lib.IntN.{ℤ}
+use lib.Dec.{T, ltb, ltb→lt, lit≤}
+use lib.Pow.{pow-add, pow_pos, pow_mono, shl_lt, shl_exact}
 use lib.Bits.{bit_and, bit_or, and_mask, or_shifted_r}
 use lib.Count.{count_leading_zeros, leading_top}
-use lib.Ieee.{Float, nan, inf, fin, binary64, up, down, units, fits, lt, nan_bits, of_bits, to_bits}
+use lib.Ieee.{Float, nan, inf, fin, binary64, up, down, fits, lt, nan_bits, of_bits, to_bits}
 use lib.Ieee.Fits.{down_pos}
 use lib.Ieee.Exact.{HasValue}
 use Rattle.rounding.specs.Root.{sqrt, round_root}

@@ -3,19 +3,19 @@
 -- that is at most a half away, and compares x with k, or with k + 1 / 2. Assumes nothing.
 use mathlib.Core.Path.{◌≡◌, refl, sym, ap, ◌∙◌, subst}
 use mathlib.Core.Logic.{◌⊎◌, inl, inr}
-use mathlib.Core.Bool.{Bool, true, false, not, ◌&&◌, cond, true≢false, false≢true}
-use Prim.Native.Nat.{ℕ, zero, suc, ◌+◌, ◌-◌, ◌*◌, ◌/◌, ◌%◌, ◌^◌, ◌≤◌, ◌<◌}
-use native.Mathlib.Nat.{le_trans, le_of_eq, le_of_lt, lt_of_lt_of_le, lt_of_le_of_lt, eq-or-lt_of_le, mul-one, one-mul, add-zero, pow-succ', mul_assoc, mul_comm, mul_left_comm, mul-pos, mul-le-mul_right, lt_of_mul-lt-mul_right, zero-lt-suc, zero-mul, suc-mul, add-mul, div-one, div-eq_of_lt-le}
+use mathlib.Core.Bool.{Bool, true, false, not, cond, true≢false}
+use Prim.Native.Nat.{ℕ, zero, suc, ◌+◌, ◌-◌, ◌*◌, ◌/◌, ◌^◌, ◌≤◌, ◌<◌}
+use native.Mathlib.Nat.{le_trans, lt_of_lt_of_le, eq-or-lt_of_le, mul-one, one-mul, add-zero, pow-succ', mul_assoc, mul_left_comm, mul-pos, lt_of_mul-lt-mul_right, zero-lt-suc, zero-mul, suc-mul, add-mul, div-one, div-eq_of_lt-le}
 use native.Mathlib.Omega.{arith}
 use lib.IntN.{ℤ, pos, negsuc}
-use lib.Dec.{T, leb, ltb, eqb, ltb→lt, lt→ltb, nltb→le, le→leb, eqb→eq, not_T, lit≤}
-use lib.Pow.{pow-add, pow_pos, pow_mono, shl_lt}
-use lib.Ieee.{Float, nan, inf, fin, Format, binary64, prec, emax, low, up, down, round, neg, add, sub, sum, lt, fits, of_int}
+use lib.Dec.{T, ltb, ltb→lt, lt→ltb, nltb→le, lit≤}
+use lib.Pow.{pow_pos, shl_lt}
+use lib.Ieee.{Float, nan, inf, fin, binary64, up, down, round, neg, add, sub, lt, fits, of_int}
 use lib.Ieee.Fits.{down_pos, up_pos}
 use lib.Ieee.Exact.{HasValue, round_exact}
 use lib.Ieee.Scale.{round_same}
 use lib.Ieee.Back.{round_whole}
-use Rattle.rounding.specs.Whole.{ceil, round_away, ceiled, halved_up, Near}
+use Rattle.rounding.specs.Whole.{ceil, round_away, halved_up, Near}
 use Rattle.rounding.specs.Values.{nought, fits_small, zero_exponent, whole_is, neg_round, lt_values, add_wholes, sub_wholes}
 use Rattle.rounding.proofs.NearWhole.{big}
 

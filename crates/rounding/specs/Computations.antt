@@ -2,7 +2,7 @@
 -- are.
 use Rattle.std.specs.Prelude.{Float}
 use Rattle.std.specs.Float.{binary64}
-use Rattle.checked.specs.Checked.{Checked, first, ◌>>=◌, finite}
+use Rattle.checked.specs.Checked.{Checked, ◌>>=◌, finite}
 use Rattle.rounding.specs.Whole.{ceil, round_away}
 use Rattle.rounding.specs.Root.{sqrt}
 

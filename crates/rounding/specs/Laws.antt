@@ -1,6 +1,6 @@
 -- What a finite result tells of its argument, so that code which notes the result need not note the
 -- argument too. Rules as in `checked`.
-use Rattle.std.specs.Prelude.{◌≡◌, Bool, true, false, ◌||◌, zero, suc, T, Float}
+use Rattle.std.specs.Prelude.{◌≡◌, Bool, true, false, ◌||◌, T, Float}
 use Rattle.std.specs.Float.{nan, inf, fin, Format, binary64}
 use Rattle.checked.specs.Checked.{is_finite}
 use Rattle.checked.specs.Laws.{tells, one, alone}

@@ -3,7 +3,7 @@
 -- power of two, has the pattern k * hid + q (`pattern_value`, `units_pattern`); and what the fields
 -- of a value above 0 say (`read_low`, `read_mid`, `read_top`). Assumes nothing.
 use Rattle.std.specs.Prelude.{◌≡◌, refl, ◌≢◌, ◌⊎◌, Bool, true, not, ◌&&◌, cond, ℕ, zero, suc, ◌+◌, ◌-◌, ◌*◌, ◌/◌, ◌%◌, ◌^◌, ◌≤◌, ◌<◌, ℤ, pos, negsuc, leb, ltb, eqb}
-use Rattle.std.proofs.Common.{sym, ap, ◌∙◌, inl, inr, true≢false, zero-le, le_trans, le_of_eq, le_of_lt, lt_of_lt_of_le, lt_of_le_of_lt, lt_irrefl, le-add_right, zero-lt-suc, zero-add, add-zero, add_assoc, mul-one, one-mul, mul_comm, mul_assoc, mul_left_comm, mul_right_comm, suc-mul, mul-pos, mul-le-mul_right, pow-suc, mod-eq_of_lt, eq-or-lt_of_le, add-sub_of_le, arith, ltb→lt, lt→ltb, nltb→le, le→leb, eqb→eq, T_not, pow-add, pow_pos, pow_mono}
+use Rattle.std.proofs.Common.{sym, ap, ◌∙◌, inl, inr, le_trans, le_of_eq, lt_of_le_of_lt, lt_irrefl, le-add_right, zero-lt-suc, zero-add, add-zero, mul-one, mul_comm, mul_assoc, mul_left_comm, mul_right_comm, suc-mul, mul-pos, mul-le-mul_right, pow-suc, mod-eq_of_lt, eq-or-lt_of_le, add-sub_of_le, arith, ltb→lt, le→leb, eqb→eq, pow-add, pow_pos}
 use Rattle.std.proofs.Math.Path.{subst}
 use Rattle.std.proofs.Math.Bool.{false}
 use Rattle.std.proofs.Math.Nat.{zero-mul, pow-succ', eq_of_mul-eq-mul_right, add-mod_left, mul-add-mod_self_left}
@@ -11,7 +11,7 @@ use Rattle.std.proofs.Math.Dec.{T, nleb→lt, not_T}
 use Rattle.std.proofs.Math.Arith.{digits_lt, digits_div, digits_mod, lt→nleb}
 use Rattle.std.proofs.Math.Pow.{pow-lt}
 use lib.Ieee.{Float, nan, inf, fin, Format, prec, emax, low, up, down, odd, units, fits, is_nan, lt, hid, ones, top, of_fields, of_bits, to_bits, nan_bits}
-use Rattle.std.specs.Float.Ieee.Fits.{and_l, and_r, down_pos, up_pos, two, reach, two-le_pos, odd-fits, inf-fits, eq→eqb}
+use Rattle.std.specs.Float.Ieee.Fits.{and_l, down_pos, up_pos, two, two-le_pos, odd-fits, inf-fits, eq→eqb}
 use Rattle.std.specs.Float.Ieee.Bits.{of_bits-to_bits, of_bits-fits, nan_bits_is, is_true, is_false, cond_no}
 use Rattle.std.specs.Float.Ieee.Exact.{HasValue, odd_sign, units_val}
 use Rattle.rounding.specs.Values.{nought, zero_exponent}

@@ -2,7 +2,7 @@
 -- of whole numbers. Definitions only. `proofs/NearestRoot.antt` shows that no value of an f64 is
 -- nearer to the exact root.
 use Prim.Native.Nat.{ℕ, zero, suc, ◌+◌, ◌-◌, ◌*◌, ◌/◌, ◌^◌, compare}
-use Rattle.std.specs.Prelude.{Bool, true, false, cond, leb, Float}
+use Rattle.std.specs.Prelude.{true, false, cond, leb, Float}
 use Rattle.std.specs.Float.{nan, inf, fin, Format}
 use Rattle.std.specs.Float.Ieee.{prec, low, up, down, size, nearest, units}
 

@@ -2,7 +2,7 @@
 -- whole numbers. Definitions only. A finite value has the size n / d, where n = m * up e and d =
 -- down e. The result keeps the sign of its argument, a zero too. `round f s k 1` is the whole
 -- number k with the sign s; `proofs/Exactness.antt` shows that it never rounds here.
-use Rattle.std.specs.Prelude.{ℕ, ◌+◌, ◌-◌, ◌*◌, ◌/◌, ◌≤◌, Bool, cond, Float}
+use Rattle.std.specs.Prelude.{ℕ, ◌+◌, ◌-◌, ◌*◌, ◌/◌, ◌≤◌, cond, Float}
 use Rattle.std.specs.Float.{nan, inf, fin, Format}
 use Rattle.std.specs.Float.Ieee.{up, down, round}
 

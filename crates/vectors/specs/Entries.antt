@@ -1,8 +1,8 @@
 -- What the entries on vectors are due to answer: the numbers handed in are tried, then the formula is worked out.
-use Rattle.std.specs.Prelude.{ℕ, Bool, cond, ◌&&◌, List, [], ◌∷◌, Float}
+use Rattle.std.specs.Prelude.{ℕ, cond, ◌&&◌, List, [], ◌∷◌, Float}
 use Rattle.std.specs.Float.Ieee.{le}
 use Rattle.checked.specs.Refusals.{OUT_OF_RANGE}
-use Rattle.checked.specs.Checked.{Checked, within, given, Due, due, refused, settled, answered}
+use Rattle.checked.specs.Checked.{within, Due, due, refused, settled, answered}
 use Rattle.checked.specs.Tests.{fails, passing}
 use Rattle.vectors.specs.Vectors.{within3, plus_c, minus_c, times_c, neg_c, cross_c, dot_c}
 use Rattle.vectors.specs.declared.Vec3.{Vec3}

@@ -1,9 +1,9 @@
 -- Laws of the vectors' operations: the refusal of each is that of what it gives, and which notes that makes needless.
-use Rattle.std.specs.Prelude.{ℕ, ◌≡◌, refl, Bool, true, false, cond, ◌&&◌, ◌||◌, T, Float}
+use Rattle.std.specs.Prelude.{ℕ, ◌≡◌, refl, Bool, true, false, ◌&&◌, ◌||◌, T, Float}
 use Rattle.std.specs.Float.{binary64}
-use Rattle.std.specs.Float.Ieee.{add, sub, mul, neg}
+use Rattle.std.specs.Float.Ieee.{add, mul}
 use Rattle.vectors.specs.declared.Vec3.{Vec3}
-use Rattle.checked.specs.Checked.{Checked, first, nine, is_finite}
+use Rattle.checked.specs.Checked.{first, nine, is_finite}
 use Rattle.checked.specs.Laws.{tells, itself, one, two, under, holds, alone, first_zero, ok, nine_ok, ok_and, add_left, add_right, sub_left, sub_right, mul_left, mul_right, neg_under, rules as checked_rules}
 use Rattle.vectors.specs.Vectors.{is_finite3, nines, plus_c, minus_c, times_c, neg_c, cross_c, dot_c, ◌⊞◌, ◌⊟◌, ◌⊠◌, ◌⊡◌, ◌⨯◌}
 

@@ -1,12 +1,11 @@
 -- Vectors, their operations as the Rust writes them, and what is tried of them.
 use Rattle.std.specs.Prelude.{ℕ, Bool, ◌&&◌, cond, Float}
-use Rattle.std.specs.Float.{binary64}
-use Rattle.std.specs.Float.Ieee.{add, sub, mul, div, neg}
+use Rattle.std.specs.Float.Ieee.{neg}
 use Rattle.vectors.specs.declared.Vec2.{Vec2}
 use Rattle.vectors.specs.declared.Vec3.{Vec3}
 use Rattle.checked.specs.Refusals.{NOT_FINITE}
 use Rattle.checked.specs.Numbers.{zero, one}
-use Rattle.checked.specs.Checked.{Checked, first, ◌>>=◌, given, nine, is_finite, within, finite, num, ◌⊕◌, ◌⊖◌, ◌⊗◌, ◌⊘◌}
+use Rattle.checked.specs.Checked.{Checked, ◌>>=◌, given, is_finite, within, finite, num, ◌⊕◌, ◌⊖◌, ◌⊗◌}
 
 -- all three numbers are finite
 unfoldable pub is_finite3 : Vec3 → Bool

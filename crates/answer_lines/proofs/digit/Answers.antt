@@ -1,4 +1,3 @@
-use borrow.Author.Rules.{rules}
 use Rattle.answer_lines.specs.Lines.{digit}
 use borrow.Author.Tests.{lt-ltb, le-ltb}
 use Rattle.answer_lines.proofs.digit.Goals as goal

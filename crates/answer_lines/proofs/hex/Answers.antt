@@ -1,7 +1,5 @@
-use Prim.Native.Nat.{◌≤◌, ◌-◌}
-use mathlib.Core.Path.{◌≡◌, refl}
+use mathlib.Core.Path.{refl}
 use native.Mathlib.Omega.{arith}
-use borrow.Author.Rules.{rules}
 use Rattle.answer_lines.specs.Lines.{spelt}
 use Rattle.answer_lines.specs.Laws.{spelt_more, spelt_fits, spelt_all, digit_small}
 use Rattle.answer_lines.proofs.hex.Goals as goal

@@ -1,5 +1,4 @@
 use native.Mathlib.Omega.{arith}
-use borrow.Author.Rules.{rules}
 use Rattle.answer_lines.specs.Laws.{spelt_two, digit_small}
 use Rattle.answer_lines.proofs.pair.Goals as goal
 

@@ -1,6 +1,5 @@
 use native.Mathlib.Omega.{arith}
 use Rattle.answer_lines.specs.Laws.{pattern_fits}
-use borrow.Author.Rules.{rules}
 use Rattle.answer_lines.specs.Lines.{pattern}
 use borrow.Author.Tests.{lt-ltb, le-ltb}
 use Rattle.answer_lines.proofs.pattern.Goals as goal

@@ -1,4 +1,3 @@
-use borrow.Author.Rules.{rules}
 use Rattle.answer_lines.specs.Lines.{refusal}
 use borrow.Author.Tests.{le-leb, lt-leb}
 use Rattle.answer_lines.proofs.refusal.Goals as goal

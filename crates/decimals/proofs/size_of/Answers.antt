@@ -3,7 +3,6 @@ use Prim.Native.Nat.{◌*◌, ◌+◌, ◌-◌, ◌/◌, ◌%◌, ◌^◌}
 use native.Mathlib.Nat.{mod-lt}
 use native.Mathlib.Omega.{arith}
 use lib.Pow.{pow_pos, shr_le}
-use borrow.Author.Rules.{rules}
 use Rattle.decimals.proofs.Sizes.{nothing, some, too_many}
 use Rattle.decimals.proofs.size_of.Goals as goal
 

@@ -2,12 +2,11 @@
 -- Assumes nothing.
 use mathlib.Core.Path.{◌≡◌, ◌∙◌, sym, ap}
 use mathlib.Core.List.{◌++◌}
-use Prim.Native.Nat.{◌+◌, ◌-◌, ◌^◌, ◌≤◌, ◌<◌}
+use Prim.Native.Nat.{◌-◌, ◌<◌}
 use native.Mathlib.Omega.{arith}
-use lib.ListN.{length, drop, length-set}
+use lib.ListN.{drop, length-set}
 use borrow.Author.Rules.{rules}
-use Rattle.decimals.specs.Digits.{digits}
-use Rattle.decimals.specs.DigitLaws.{ahead, ahead_zero}
+use Rattle.decimals.specs.DigitLaws.{ahead_zero}
 use Rattle.decimals.proofs.Places.{last_digit, next_digit, room, room_left}
 use Rattle.decimals.proofs.spell.Goals as goal
 

@@ -1,14 +1,11 @@
 -- `decimals::spell` meets its contract. The loop's invariant: the digits that stand are those that `rest` does not hold. The measure is `rest`.
 -- Assumes nothing.
-use mathlib.Core.Path.{◌≡◌, ◌∙◌, sym, ap}
+use mathlib.Core.Path.{◌≡◌}
 use mathlib.Core.List.{◌++◌}
-use Prim.Native.Nat.{◌+◌, ◌-◌, ◌^◌, ◌≤◌, ◌<◌}
-use native.Mathlib.Omega.{arith}
-use lib.ListN.{length, drop, length-set}
-use borrow.Author.Rules.{rules}
+use Prim.Native.Nat.{◌^◌, ◌≤◌, ◌<◌}
+use lib.ListN.{length, drop}
 use Rattle.decimals.specs.Digits.{digits}
-use Rattle.decimals.specs.DigitLaws.{ahead, ahead_zero}
-use Rattle.decimals.proofs.Places.{last_digit, next_digit, room, room_left}
+use Rattle.decimals.specs.DigitLaws.{ahead}
 use Rattle.decimals.proofs.spell.Given as goal
 
 abbrev pub invariant-loop-rest : goal.invariant-loop-rest

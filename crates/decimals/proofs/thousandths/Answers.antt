@@ -1,8 +1,6 @@
 -- `decimals::thousandths` meets its contract. Assumes nothing.
-use borrow.Author.Rules.{rules}
 use mathlib.Core.Path.{sym, subst}
 use lib.Dec.{T}
-use lib.Ieee.{binary64, fits}
 use Rattle.checked.specs.Checked.{settled}
 use Rattle.decimals.proofs.Sizes.{few, many}
 use Rattle.decimals.proofs.thousandths.Goals as goal

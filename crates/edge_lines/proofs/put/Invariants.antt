@@ -1,12 +1,9 @@
 -- `edge_lines::put` meets its contract. The loop's invariant: what is left of the text's bytes is still to be put. The measure is how many they are.
 -- Assumes nothing.
-use mathlib.Core.Path.{◌≡◌, ◌∙◌, refl, ap}
+use mathlib.Core.Path.{◌≡◌}
 use mathlib.Core.List.{◌++◌}
-use Prim.Native.Nat.{◌+◌, ◌-◌, ◌≤◌}
-use native.Mathlib.Omega.{arith}
-use lib.ListN.{length, drop, length-set}
-use borrow.Author.Rules.{rules}
-use Rattle.edge_lines.proofs.Before.{none, more}
+use Prim.Native.Nat.{◌+◌, ◌≤◌}
+use lib.ListN.{length, drop}
 use Rattle.edge_lines.proofs.put.Given as goal
 
 abbrev pub invariant-loop-i : goal.invariant-loop-i

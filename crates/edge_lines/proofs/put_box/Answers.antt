@@ -4,7 +4,6 @@ use native.Mathlib.Omega.{arith}
 use lib.ListN.{drop}
 use Rattle.edge_lines.specs.Lines.{bytes}
 use Rattle.edge_lines.proofs.Before.{box_is, box_refused}
-use borrow.Author.Rules.{rules}
 use Rattle.edge_lines.proofs.put_box.Goals as goal
 
 pub returns-then-refusal-eq0 : goal.returns-then-refusal-eq0

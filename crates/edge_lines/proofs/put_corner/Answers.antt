@@ -4,7 +4,6 @@ use lib.ListN.{drop}
 use Rattle.checked.specs.Checked.{settled}
 use Rattle.edge_lines.specs.Lines.{spaced}
 use Rattle.edge_lines.proofs.Before.{settles}
-use borrow.Author.Rules.{rules}
 use Rattle.edge_lines.proofs.put_corner.Goals as goal
 
 pub returns : goal.returns

@@ -4,7 +4,6 @@ use native.Mathlib.Omega.{arith}
 use Rattle.checked.specs.Checked.{due, settled}
 use Rattle.edge_lines.specs.Lines.{corner}
 use Rattle.edge_lines.proofs.Before.{newline}
-use borrow.Author.Rules.{rules}
 use Rattle.edge_lines.proofs.put_corners.Goals as goal
 
 pub returns : goal.returns

@@ -4,7 +4,6 @@ use native.Mathlib.Omega.{arith}
 use lib.ListN.{drop}
 use Rattle.decimals.specs.Digits.{digits}
 use Rattle.edge_lines.proofs.Before.{to_end}
-use borrow.Author.Rules.{rules}
 use Rattle.edge_lines.proofs.put_digits.Goals as goal
 
 pub returns : goal.returns

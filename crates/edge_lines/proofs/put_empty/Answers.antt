@@ -2,7 +2,6 @@
 use mathlib.Core.Path.{◌∙◌}
 use native.Mathlib.Omega.{arith}
 use Rattle.edge_lines.proofs.Before.{empty_is}
-use borrow.Author.Rules.{rules}
 use Rattle.edge_lines.proofs.put_empty.Goals as goal
 
 pub returns : goal.returns

@@ -3,7 +3,6 @@ use mathlib.Core.Path.{◌∙◌, ap}
 use native.Mathlib.Omega.{arith}
 use Rattle.decimals.specs.Thousandths.{thousandths}
 use Rattle.edge_lines.specs.Lines.{spaced, corner}
-use borrow.Author.Rules.{rules}
 use Rattle.edge_lines.proofs.put_point.Goals as goal
 
 pub returns : goal.returns

@@ -5,7 +5,6 @@ use native.Mathlib.Omega.{arith}
 use Rattle.decimals.specs.Digits.{digits}
 use Rattle.edge_lines.specs.Lines.{bytes}
 use Rattle.edge_lines.proofs.Before.{newline, refused_is}
-use borrow.Author.Rules.{rules}
 use Rattle.edge_lines.proofs.put_refused.Goals as goal
 
 pub returns : goal.returns

@@ -3,7 +3,6 @@ use mathlib.Core.Path.{◌∙◌, ap}
 use mathlib.Core.List.{◌∷◌}
 use native.Mathlib.Omega.{arith}
 use lib.ListN.{drop}
-use borrow.Author.Rules.{rules}
 use Rattle.edge_lines.proofs.Before.{with_minus, without}
 use Rattle.edge_lines.proofs.put_whole.Goals as goal
 

@@ -1,6 +1,5 @@
 use mathlib.Core.Path.{sym, subst}
 use lib.Dec.{T}
-use lib.Ieee.{binary64, fits}
 use Rattle.checked.specs.PatternLaws.{own_no_nan}
 use Rattle.float_bits.specs.Laws.{fabs_bits, size_number, fabs_of_nan}
 use Rattle.float_bits.proofs.fabs.Goals as goal

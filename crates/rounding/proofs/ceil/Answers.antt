@@ -2,8 +2,8 @@
 use mathlib.Core.Path.{◌≡◌, sym, subst}
 use mathlib.Core.Bool.{Bool, not}
 use lib.Dec.{T}
-use lib.Ieee.{Float, binary64, fits, of_bits, neg}
-use Rattle.rounding.proofs.Wholes.{Small, SmallBelow, small, small_below, large, large_below, flat, turned_below, ceil_up_at, ceil_stays_at, ceil_below_less_at, ceil_below_stays_at, ceil_large, ceil_flat}
+use lib.Ieee.{of_bits, neg}
+use Rattle.rounding.proofs.Wholes.{small, small_below, large, large_below, flat, turned_below, ceil_up_at, ceil_stays_at, ceil_below_less_at, ceil_below_stays_at, ceil_large, ceil_flat}
 use Rattle.rounding.proofs.ceil.Goals as goal
 
 yes : {b : Bool} → b ≡ Bool.true → T b

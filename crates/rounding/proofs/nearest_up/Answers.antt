@@ -3,7 +3,7 @@
 use mathlib.Core.Path.{◌≡◌, sym, subst}
 use mathlib.Core.Bool.{Bool, not}
 use lib.Dec.{T}
-use lib.Ieee.{Float, binary64, of_bits}
+use lib.Ieee.{of_bits}
 use Rattle.rounding.proofs.Wholes.{small, round_up_at, round_stays_at}
 use Rattle.rounding.proofs.nearest_up.Goals as goal
 

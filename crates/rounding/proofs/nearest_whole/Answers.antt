@@ -1,8 +1,8 @@
 -- `nearest_whole` meets its contract, by `near_small` of `proofs/NearWhole.antt`. Assumes nothing.
-use mathlib.Core.Path.{◌≡◌, sym, subst, ap, ◌∙◌}
+use mathlib.Core.Path.{◌≡◌, sym, subst}
 use Prim.Native.Nat.{ℕ}
 use lib.IntN.{pos}
-use lib.Ieee.{Float, fin, binary64, add, sub, of_int, of_bits}
+use lib.Ieee.{Float, binary64, add, sub, of_int, of_bits}
 use Rattle.rounding.specs.Whole.{Near}
 use Rattle.rounding.proofs.NearWhole.{big, near_small}
 use Rattle.rounding.proofs.Wholes.{Small, small}

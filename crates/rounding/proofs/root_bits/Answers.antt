@@ -1,9 +1,7 @@
 -- `root_bits` meets its contract. Assumes nothing.
-use mathlib.Core.Path.{◌≡◌, refl, subst}
-use mathlib.Core.Logic.{inl, inr}
-use Prim.Native.Nat.{ℕ, ◌+◌, ◌*◌, ◌%◌, ◌^◌, ◌≤◌, ◌<◌}
+use mathlib.Core.Path.{refl, subst}
+use Prim.Native.Nat.{ℕ}
 use native.Mathlib.Omega.{arith}
-use borrow.Author.Rules.{rules}
 use Rattle.rounding.specs.NearRoot.{NearRoot}
 use Rattle.rounding.proofs.Roots.{Scaled, scaled_even, scaled_odd, near_range_at}
 use Rattle.rounding.proofs.root_bits.Goals as goal

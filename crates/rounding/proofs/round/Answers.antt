@@ -2,8 +2,8 @@
 use mathlib.Core.Path.{◌≡◌, sym, ap, ◌∙◌, subst}
 use mathlib.Core.Bool.{Bool, not}
 use lib.Dec.{T}
-use lib.Ieee.{Float, binary64, fits, of_bits, neg}
-use Rattle.rounding.proofs.Wholes.{SmallBelow, small_below, large, large_below, flat, turned_below, round_below_at, round_large, round_flat}
+use lib.Ieee.{of_bits, neg}
+use Rattle.rounding.proofs.Wholes.{small_below, large, large_below, flat, turned_below, round_below_at, round_large, round_flat}
 use Rattle.rounding.proofs.round.Goals as goal
 
 yes : {b : Bool} → b ≡ Bool.true → T b

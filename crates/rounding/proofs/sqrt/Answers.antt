@@ -1,14 +1,12 @@
 -- `sqrt` meets its contract. `proofs/SquareRoot.antt` says what each arm returns. Assumes nothing.
 use mathlib.Core.Path.{◌≡◌, sym, subst}
 use mathlib.Core.Bool.{Bool, not}
-use Prim.Native.Nat.{ℕ, ◌+◌, ◌-◌, ◌*◌, ◌/◌, ◌%◌, ◌^◌, ◌<◌, ◌≤◌}
 use native.Mathlib.Omega.{arith}
 use lib.Dec.{T}
-use lib.Ieee.{Float, binary64, fits, lt, div, of_bits, to_bits}
-use Rattle.rounding.specs.Values.{nought}
+use lib.Ieee.{div, of_bits}
 use Rattle.rounding.proofs.Wholes.{flat}
 use Rattle.rounding.specs.Patterns.{above_no_nan}
-use Rattle.rounding.proofs.SquareRoot.{Parts, field_lt, infinite, normal, zeros, subnormal, made_no_nan, finish, root_below, root_flat}
+use Rattle.rounding.proofs.SquareRoot.{field_lt, infinite, normal, zeros, subnormal, made_no_nan, finish, root_below, root_flat}
 use Rattle.rounding.proofs.sqrt.Goals as goal
 
 yes : {b : Bool} → b ≡ Bool.true → T b

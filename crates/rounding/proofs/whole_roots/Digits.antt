@@ -1,6 +1,6 @@
 -- What the proofs of the three functions cite: bounds of squares that keep each step within 64
 -- bits, and the next digits of a root. Assumes nothing.
-use mathlib.Core.Path.{◌≡◌, refl, sym, ap, ◌∙◌}
+use mathlib.Core.Path.{◌≡◌, sym, ap, ◌∙◌}
 use Prim.Native.Nat.{ℕ, zero, suc, ◌+◌, ◌-◌, ◌*◌, ◌/◌, ◌%◌, ◌^◌, ◌≤◌, ◌<◌}
 use native.Mathlib.Nat.{lt_of_le_of_lt, mul_comm, mul_assoc, mul_left_comm, mul-add, add-mul, mul-le-mul_right, zero-lt-suc, div-le_of_le-mul, div-add-mod', mod-lt}
 use native.Mathlib.Omega.{arith}

@@ -1,4 +1,3 @@
-use borrow.Author.Rules.{rules}
 use Rattle.vectors.specs.Vectors.{within2}
 use Rattle.vectors.proofs.is_within2.Goals as goal
 

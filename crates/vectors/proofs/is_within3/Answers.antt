@@ -1,4 +1,3 @@
-use borrow.Author.Rules.{rules}
 use Rattle.vectors.specs.Vectors.{within3}
 use Rattle.vectors.proofs.is_within3.Goals as goal
 

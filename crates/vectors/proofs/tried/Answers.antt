@@ -1,4 +1,3 @@
-use borrow.Author.Rules.{rules}
 use Rattle.vectors.specs.Vectors.{nines}
 use Rattle.checked.specs.Laws.{rules as checked_rules}
 use Rattle.vectors.proofs.tried.Goals as goal

@@ -1,4 +1,3 @@
-use Rattle.std.proofs.Common.{◌-◌, length, rules}
 use Rattle.replay_lines.proofs.answers.are_numbers.Goals as goal
 
 pub returns : goal.returns

@@ -1,4 +1,4 @@
-use Rattle.std.proofs.Common.{◌≡◌, ◌-◌, length, arith, rules}
+use Rattle.std.proofs.Common.{arith}
 use Rattle.replay_lines.proofs.inputs.fill.Goals as goal
 
 pub loop-i-smaller : goal.loop-i-smaller

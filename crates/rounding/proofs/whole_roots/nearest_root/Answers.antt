@@ -1,7 +1,6 @@
 -- `nearest_root` meets its contract. The arithmetic is in `proofs/Digits.antt`. Assumes nothing.
-use Prim.Native.Nat.{ℕ, ◌+◌, ◌*◌, ◌^◌, ◌≤◌, ◌<◌}
 use native.Mathlib.Omega.{arith}
-use Rattle.rounding.proofs.whole_roots.Digits.{sq_27, Bounds, bounds, near_up, near_same, near_down}
+use Rattle.rounding.proofs.whole_roots.Digits.{sq_27, bounds, near_up, near_same, near_down}
 use Rattle.rounding.proofs.whole_roots.nearest_root.Goals as goal
 
 pub whole_root-s-requires : goal.whole_root-s-requires

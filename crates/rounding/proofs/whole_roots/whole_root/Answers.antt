@@ -1,7 +1,6 @@
 -- `whole_root` meets its contract. The first loop brings s down to where its square is at most n,
 -- and the second up to where the next one's is not. Both keep s below 2 ^ 27, so that its square
 -- fits. The measures are s, and what s lacks of 2 ^ 27. Assumes nothing.
-use Prim.Native.Nat.{ℕ, ◌+◌, ◌-◌, ◌*◌, ◌^◌, ◌≤◌, ◌<◌}
 use native.Mathlib.Omega.{arith}
 use Rattle.rounding.proofs.whole_roots.Digits.{sq_27, sq_up, sq_pos}
 use Rattle.rounding.proofs.whole_roots.whole_root.Goals as goal

@@ -1,9 +1,7 @@
 -- `whole_root` meets its contract. The first loop brings s down to where its square is at most n,
 -- and the second up to where the next one's is not. Both keep s below 2 ^ 27, so that its square
 -- fits. The measures are s, and what s lacks of 2 ^ 27. Assumes nothing.
-use Prim.Native.Nat.{ℕ, ◌+◌, ◌-◌, ◌*◌, ◌^◌, ◌≤◌, ◌<◌}
-use native.Mathlib.Omega.{arith}
-use Rattle.rounding.proofs.whole_roots.Digits.{sq_27, sq_up, sq_pos}
+use Prim.Native.Nat.{◌-◌, ◌*◌, ◌^◌, ◌≤◌, ◌<◌}
 use Rattle.rounding.proofs.whole_roots.whole_root.Given as goal
 
 abbrev pub invariant-loop-s : goal.invariant-loop-s

@@ -1,4 +1,3 @@
-use borrow.Author.Rules.{rules}
 use Rattle.vectors.specs.Entries.{dominant_axis_due}
 use Rattle.checked.specs.TestsLaws.{passing_none, passing_some}
 use Rattle.checked.specs.Checked.{due}

@@ -1,4 +1,3 @@
-use borrow.Author.Rules.{rules}
 use Rattle.vectors.specs.Entries.{sum_due}
 use Rattle.vectors.specs.Laws.{rules as vectors_rules}
 use Rattle.checked.specs.TestsLaws.{passing_none, passing_some}

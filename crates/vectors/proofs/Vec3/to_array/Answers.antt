@@ -1,4 +1,3 @@
-use borrow.Author.Rules.{rules}
 use Rattle.vectors.specs.Entries.{to_array_due}
 use Rattle.checked.specs.Laws.{rules as checked_rules}
 use Rattle.checked.specs.TestsLaws.{passing_none, passing_some}

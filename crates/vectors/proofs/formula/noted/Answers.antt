@@ -1,4 +1,3 @@
-use borrow.Author.Rules.{rules}
 use Rattle.checked.specs.Laws.{first_assoc}
 use Rattle.vectors.specs.Laws.{nines_are}
 use Rattle.vectors.proofs.formula.noted.Goals as goal
