@@ -1,11 +1,8 @@
--- What holds of arcs for every input. Read first the claims: `Turns` (the ranges of turns and
--- sweeps), `Same` (one point twice), `FullCircles` (how to tell a full circle), `Points` (box
--- calls), `At` (points of an arc), `PerTurn` and `Inner` (points for drawing); each ends with what
--- an entry answers. `Sizes` and `Squares` carry bounds through the operations on vectors.
+-- The words in which it is said what holds of arcs for every input, and of what is proved here `PerTurn` (how many chords there are), `Sizes` and
+-- `Squares` (bounds through the operations on vectors). The claims stand in proofs/: its Lib.antt says what to read first.
 pub mod Turns
 pub mod Same
 pub mod FullCircles
-pub mod Points
 pub mod At
 pub mod PerTurn
 pub mod Inner

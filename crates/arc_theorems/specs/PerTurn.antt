@@ -1,6 +1,6 @@
 -- `per_turn` lies in 12 to 64 and is never refused by 9: a chord that is not below 0 and below the
 -- radius makes a cosine in [0, 1]. Assumes nothing.
-use Rattle.std.specs.Prelude.{◌≡◌, Bool, not, cond, ◌&&◌, ℕ, suc, ◌-◌, ◌*◌, ◌<◌, T, eqb, ℤ, negsuc, Float}
+use Rattle.std.specs.Prelude.{◌≡◌, Bool, not, cond, ◌&&◌, ℕ, suc, ◌*◌, ◌<◌, T, eqb, ℤ, negsuc, Float}
 use Rattle.std.proofs.Math.Path.{refl}
 use Rattle.std.proofs.Common.{sym, ap, ◌∙◌, subst, zero-lt-suc, mul-pos}
 use Rattle.std.proofs.Math.Bool.{true, false}

@@ -1,7 +1,7 @@
 -- Where any list of box calls leaves the box: `Met` is the claim, `all_lists` shows it of every list, and `same_box` follows.
 -- It is stated of any kind of edge, given the number of the test that an edge handed in fails first (`handed`) and how its ends and extreme points are worked out
 -- (`points`). `box_call` is the call, with which the contracts of the box calls in the code agree.
--- What is proved of them stands in proofs/Demand3.antt.
+-- Proved in proofs/Demand3.antt.
 use Prim.Native.Nat.{ℕ}
 use Rattle.std.specs.Prelude.{◌≡◌, Bool}
 use Rattle.std.proofs.Math.Bool.{true, false, cond}

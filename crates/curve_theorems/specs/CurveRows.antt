@@ -17,7 +17,8 @@ use Rattle.arcs.specs.declared.chords.Cut.{Cut}
 use Rattle.arcs.specs.Chords as arc_chords
 use Rattle.arcs.specs.Entries as arcs
 use Rattle.arc_theorems.specs.At.{off_length}
-use Rattle.arc_theorems.specs.Inner.{is_none, points_of, rim_points, inner_answer}
+use Rattle.arc_theorems.specs.Inner.{is_none, points_of, rim_points}
+use Rattle.arc_theorems.proofs.Inner.{inner_answer}
 use Rattle.piece_lengths.specs.Counts.{chords_c}
 use Rattle.piece_rows.specs.Inner.{inner_c, inners_due}
 use Rattle.pieces.specs.Entries as pieces

@@ -23,7 +23,7 @@ use Rattle.edge_records.specs.declared.Record.TheVariants as first
 use Rattle.edge_records.specs.Records.{record_of, size_of, kind_of}
 use Rattle.edge_file.specs.EdgeFile.{nothing, printed, ended, by_record, line_from, line_of}
 use Rattle.edge_theorems.specs.FileBoxes.{FileOf, ends, arc, NoneRefused, as_call, file_line}
-use Rattle.arc_theorems.specs.Points.{extend_answer}
+use Rattle.arc_theorems.proofs.Points.{extend_answer}
 
 -- ================ the claim
 

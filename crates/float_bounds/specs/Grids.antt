@@ -1,7 +1,7 @@
 -- Multiples of 2 ^ k units. A number of 2 ^ (52 + k) units or more is one (`multiple`). Each multiple up to 2 ^ 53 times 2 ^ k units is a number,
 -- which rounding therefore does not pass (`grid_most`). Beyond that numbers lie twice as far apart: 2 ^ k units more are rounded back (`tie_most`).
 -- Assumes nothing.
--- What is proved of them stands in proofs/Grids.antt.
+-- Proved in proofs/Grids.antt.
 use Rattle.std.specs.Prelude.{◌≡◌, ℕ, ◌*◌, ◌^◌, Float}
 use Rattle.float_bounds.specs.UnitsLaws.{gain, loss}
 

@@ -1,7 +1,7 @@
 -- What an operation makes of bounds of its operands. A bound is a number of the format, and the
 -- operation on the bounds bounds the result: with closed numbers for bounds it computes. Assumes
 -- nothing.
--- What is proved of them stands in proofs/Intervals.antt.
+-- Proved in proofs/Intervals.antt.
 use Rattle.std.specs.Prelude.{Bool, T, ltb, Float}
 use Rattle.std.proofs.Math.Bool.{true, false}
 use Rattle.std.specs.Float.Ieee.{nan, le}

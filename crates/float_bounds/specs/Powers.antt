@@ -1,6 +1,6 @@
 -- Magnitudes at most 2 ^ k, for any k up to 1023: sums and differences add one to the exponent,
 -- products add the exponents. Assumes nothing.
--- What is proved of them stands in proofs/Powers.antt.
+-- Proved in proofs/Powers.antt.
 use Rattle.std.specs.Prelude.{false, ℕ, pos, Float}
 use Rattle.std.specs.Float.{fin}
 

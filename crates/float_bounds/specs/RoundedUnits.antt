@@ -1,6 +1,6 @@
 -- What rounds a difference, in units. f64 numbers, their sums and their products round differences of units (`own_rounds`, `sum_rounds`,
 -- `product_rounds`); rounding keeps the order (`units_order`), and goes by half of 2 ^ k units at most (`units_near`). Assumes nothing.
--- What is proved of them stands in proofs/RoundedUnits.antt.
+-- Proved in proofs/RoundedUnits.antt.
 use Rattle.std.specs.Prelude.{ℕ, ◌+◌, ◌*◌, ◌≤◌, T, Float}
 use Rattle.checked.specs.Checked.{is_finite}
 use Rattle.float_bounds.specs.Units.{F64}

@@ -1,6 +1,6 @@
 -- The root of a number of the format that is not below zero is finite, and where it is above zero
 -- it is 2 ^ -537 at least. Assumes nothing.
--- What is proved of them stands in proofs/SquareRoots.antt.
+-- Proved in proofs/SquareRoots.antt.
 use Rattle.std.specs.Prelude.{negsuc, Float}
 use Rattle.std.proofs.Math.Bool.{false}
 use Rattle.std.specs.Float.{fin}

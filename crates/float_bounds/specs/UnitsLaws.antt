@@ -1,6 +1,6 @@
 -- Numbers by their units, as two naturals of which one is 0: `gain` above zero and `loss` below. The order and the limits of numbers in units, and
 -- `Between` by them. Assumes nothing.
--- What is proved of them stands in proofs/UnitsLaws.antt.
+-- Proved in proofs/UnitsLaws.antt.
 use Rattle.std.specs.Prelude.{◌≡◌, ℕ, ◌*◌, Float}
 use Rattle.std.specs.Float.{nan, inf, fin}
 use Rattle.float_bounds.specs.Parts.{plus, minus, above, under, den}

@@ -1,6 +1,6 @@
 -- The arctangent of a number is at most 3 in magnitude, and not below zero for a number with no
 -- minus sign. Assumes nothing.
--- What is proved of them stands in proofs/Arctangents.antt.
+-- Proved in proofs/Arctangents.antt.
 use Rattle.std.specs.Prelude.{◌≡◌, pos, Float}
 use Rattle.std.proofs.Math.Bool.{false}
 use Rattle.std.proofs.Math.Dec.{T}

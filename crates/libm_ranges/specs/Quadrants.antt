@@ -1,5 +1,5 @@
 -- The angle of a point with finite coordinates lies in [−π, π], and so is finite. Assumes nothing.
--- What is proved of them stands in proofs/Quadrants.antt.
+-- Proved in proofs/Quadrants.antt.
 use Rattle.std.specs.Prelude.{Float}
 use Rattle.std.specs.Float.Ieee.{neg}
 use Rattle.checked.specs.Numbers.{pi}

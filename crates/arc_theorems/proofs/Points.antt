@@ -30,7 +30,8 @@ use Rattle.float_bounds.proofs.SquareRoots.{sqrt_finite, sqrt_least}
 use Rattle.order.specs.Order.{le_trans_of}
 use Rattle.arc_theorems.specs.Sizes.{Upto3, none, nine_none, within_upto3, wider3, minus3, plus3, times3, dot3}
 use Rattle.arc_theorems.specs.Squares.{dot_self}
-use Rattle.arc_theorems.specs.Turns.{Handed, handed_in, sweep_from_accepted}
+use Rattle.arc_theorems.specs.Turns.{Handed}
+use Rattle.arc_theorems.proofs.Turns.{handed_in, sweep_from_accepted}
 
 -- ---- across the axis
 
