@@ -7,7 +7,8 @@ use lib.ListN.{length, take, drop, length-drop}
 use lib.Seq.{take_all, drop-drop}
 use Rattle.edge_file.specs.declared.Reading.{Reading}
 use Rattle.edge_file.specs.Steps.{line_on, step, due_of, Fed}
-use Rattle.edge_file.specs.Cutting.{stepped, left_over, due_within, due_little, OpenAfter, step_open, open_more, none_due}
+use Rattle.edge_file.specs.Cutting.{OpenAfter}
+use Rattle.edge_file.proofs.Cutting.{stepped, left_over, due_within, due_little, step_open, open_more, none_due}
 
 -- After the first `used` bytes the reading r stands, the next step takes `size` bytes, and the line
 -- is that of the reading r₀ before them.

@@ -1,6 +1,5 @@
 -- `edge_file::next_number` meets its contract. Assumes nothing.
 use native.Mathlib.Omega.{arith}
-use borrow.Author.Rules.{rules}
 use Rattle.edge_file.specs.EdgeFile.{next}
 use Rattle.edge_file.proofs.next_number.Goals as goal
 

@@ -1,4 +1,3 @@
-use borrow.Author.Rules.{rules}
 use Rattle.edge_file.proofs.Reading.begun.Goals as goal
 
 pub returns : goal.returns

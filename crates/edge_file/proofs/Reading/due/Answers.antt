@@ -1,4 +1,3 @@
-use borrow.Author.Rules.{rules}
 use Rattle.edge_file.specs.Steps.{due_of}
 use Rattle.edge_file.proofs.Reading.due.Goals as goal
 

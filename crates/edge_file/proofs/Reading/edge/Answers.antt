@@ -4,7 +4,6 @@ use mathlib.Core.Bool.{true}
 use Rattle.boxes.specs.Boxes.{widened_due}
 use Rattle.edge_file.specs.declared.Status.TheVariants as status
 use Rattle.edge_file.specs.Steps.{called_on}
-use borrow.Author.Rules.{rules}
 use Rattle.edge_file.proofs.Reading.edge.Goals as goal
 
 pub returns-in-Box : goal.returns-in-Box

@@ -1,10 +1,7 @@
 -- `edge_file::Reading::feed` meets its contract. The loop's invariant is `Taking`; the measure is
 -- how many bytes are left. Assumes nothing.
-use Prim.Native.Nat.{◌-◌}
 use native.Mathlib.Omega.{arith}
-use lib.ListN.{length}
-use borrow.Author.Rules.{rules}
-use Rattle.edge_file.proofs.Turns.{Taking, taking_none, taking_more, taken}
+use Rattle.edge_file.proofs.Turns.{taking_none, taking_more, taken}
 use Rattle.edge_file.proofs.Reading.feed.Goals as goal
 
 pub loop-size-init : goal.loop-size-init

@@ -1,7 +1,6 @@
 -- `edge_file::Reading::finish` meets its contract. Assumes nothing.
 use mathlib.Core.Path.{◌∙◌}
 use Rattle.edge_file.proofs.Last.{if_open, if_refused, if_box, if_empty}
-use borrow.Author.Rules.{rules}
 use Rattle.edge_file.proofs.Reading.finish.Goals as goal
 
 pub returns-in-Open : goal.returns-in-Open

@@ -1,7 +1,6 @@
 -- `edge_file::Reading::first_of` meets its contract. Assumes nothing.
 use mathlib.Core.Path.{sym, ◌∙◌, ap}
 use Rattle.edge_file.specs.Steps.{record_on}
-use borrow.Author.Rules.{rules}
 use Rattle.edge_file.proofs.Reading.first_of.Goals as goal
 
 pub returns-in-Edge : goal.returns-in-Edge

@@ -1,4 +1,3 @@
-use borrow.Author.Rules.{rules}
 use Rattle.edge_file.specs.Steps.{is_refused}
 use Rattle.edge_file.proofs.Reading.is_refused.Goals as goal
 

@@ -1,4 +1,3 @@
-use borrow.Author.Rules.{rules}
 use Rattle.edge_file.specs.Steps.{step}
 use Rattle.edge_file.proofs.Reading.step.Goals as goal
 
