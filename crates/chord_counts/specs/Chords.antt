@@ -1,9 +1,9 @@
 -- How many chords a circle is drawn with.
-use Rattle.std.specs.Prelude.{Bool, cond, not, ◌&&◌, from_bits, Float}
+use Rattle.std.specs.Prelude.{cond, ◌&&◌, from_bits, Float}
 use Rattle.std.specs.Float.{binary64}
 use Rattle.std.specs.Float.Ieee.{div, lt}
 use Rattle.checked.specs.Refusals.{OUT_OF_RANGE}
-use Rattle.checked.specs.Checked.{Checked, first, ◌>>=◌, given, num, within, ◌⊖◌, ◌⊘◌, Due, answered}
+use Rattle.checked.specs.Checked.{Checked, ◌>>=◌, given, num, within, ◌⊖◌, ◌⊘◌, Due, answered}
 use Rattle.checked.specs.Tests.{fails, ◌or◌, passing, chord_test}
 use Rattle.checked.specs.Numbers.{zero, one, pi}
 use Rattle.rounding.specs.Whole.{ceil}

@@ -3,7 +3,7 @@ use Rattle.std.specs.Prelude.{ℕ, cond, Float}
 use Rattle.std.specs.Float.{binary64}
 use Rattle.std.specs.Float.Ieee.{le, to_unsigned}
 use Rattle.checked.specs.Refusals.{COUNT_TOO_LARGE}
-use Rattle.checked.specs.Checked.{Checked, first, ◌>>=◌, given, finite}
+use Rattle.checked.specs.Checked.{Checked, ◌>>=◌, given, finite}
 use Rattle.checked.specs.Numbers.{float}
 use Rattle.rounding.specs.Whole.{ceil}
 use Rattle.order.specs.Least.{greatest}

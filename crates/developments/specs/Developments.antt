@@ -1,7 +1,7 @@
 -- The development of a cylinder, and what its entries are due to answer.
 use Rattle.std.specs.Prelude.{Bool, ◌&&◌, Float}
 use Rattle.checked.specs.Refusals.{OUT_OF_RANGE}
-use Rattle.checked.specs.Checked.{Checked, first, ◌>>=◌, given, within, Due, due, refused, answered}
+use Rattle.checked.specs.Checked.{Checked, ◌>>=◌, given, within, Due, due, refused, answered}
 use Rattle.checked.specs.Tests.{fails, ◌or◌, passing, neutral_test}
 use Rattle.motions.specs.declared.Rigid.{Rigid}
 use Rattle.motions.specs.Motions.{within_rigid, apply_c, apply_vector_c}

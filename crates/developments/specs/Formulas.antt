@@ -1,6 +1,6 @@
 -- A rolled sheet: from its development to space and back.
 use Rattle.std.specs.Prelude.{Float}
-use Rattle.checked.specs.Checked.{Checked, first, ◌>>=◌, given, finite, num, ◌⊕◌, ◌⊖◌, ◌⊗◌, ◌⊘◌}
+use Rattle.checked.specs.Checked.{Checked, ◌>>=◌, given, num, ◌⊕◌, ◌⊖◌, ◌⊗◌, ◌⊘◌}
 use Rattle.checked.specs.Numbers.{tau}
 use Rattle.profile_arcs.specs.Angles.{atan2_c}
 use Rattle.libm.specs.Sincos.{sincos_c}

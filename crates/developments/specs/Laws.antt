@@ -1,8 +1,8 @@
 -- Which notes suffice between a development and space. Assumes nothing.
-use Rattle.std.specs.Prelude.{◌≡◌, refl, Float}
+use Rattle.std.specs.Prelude.{◌≡◌, Float}
 use Rattle.std.specs.Float.{binary64}
 use Rattle.std.specs.Float.Ieee.{div}
-use Rattle.checked.specs.Checked.{Checked, first, nine}
+use Rattle.checked.specs.Checked.{first, nine}
 use Rattle.checked.specs.Laws.{rules as checked_rules}
 use Rattle.profile_arcs.specs.Angles.{atan2_c}
 use Rattle.libm.specs.Sincos.{sincos_c}

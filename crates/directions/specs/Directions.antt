@@ -1,7 +1,7 @@
 -- Unit vectors: along a vector, and away from an axis.
 use Rattle.std.specs.Prelude.{Float}
 use Rattle.checked.specs.Refusals.{OUT_OF_RANGE}
-use Rattle.checked.specs.Checked.{Checked, first, ◌>>=◌, given, num, ◌⊘◌, Due, answered}
+use Rattle.checked.specs.Checked.{Checked, ◌>>=◌, num, ◌⊘◌, Due, answered}
 use Rattle.checked.specs.Tests.{fails, passing}
 use Rattle.checked.specs.Numbers.{one}
 use Rattle.rounding.specs.Computations.{sqrt_c}

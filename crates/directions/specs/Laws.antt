@@ -1,7 +1,7 @@
 -- Which notes of a root, a length, a unit vector are needless.
-use Rattle.std.specs.Prelude.{◌≡◌, refl, Bool, ◌||◌, T, Float}
+use Rattle.std.specs.Prelude.{◌≡◌, Bool, ◌||◌}
 use Rattle.std.specs.Float.{binary64}
-use Rattle.checked.specs.Checked.{Checked, first, nine, is_finite}
+use Rattle.checked.specs.Checked.{first, nine, is_finite}
 use Rattle.checked.specs.Laws.{tells, one, two, alone, rules as checked_rules}
 use Rattle.rounding.specs.Computations.{sqrt_c}
 use Rattle.rounding.specs.Laws.{sqrt_under, rounded}

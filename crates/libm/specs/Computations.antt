@@ -1,6 +1,6 @@
 -- Arccosine and hypotenuse, over computations, as the operators of `checked` are.
 use Rattle.std.specs.Prelude.{Float}
-use Rattle.checked.specs.Checked.{Checked, first, ◌>>=◌, finite}
+use Rattle.checked.specs.Checked.{Checked, ◌>>=◌, finite}
 use Rattle.libm.specs.Roots.{acos, hypot}
 
 -- the angle whose cosine is given: 9 where there is none

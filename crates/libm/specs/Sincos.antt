@@ -2,7 +2,7 @@
 -- (`k_trig`) and the reduction of an angle (`rem_pio2`), with libm's names for constants
 -- and variables. Definitions only. They are due at angles of at most 1,048,576 in magnitude.
 -- Operations that libm makes only to raise a flag are left out.
-use Rattle.std.specs.Prelude.{ℕ, Bool, cond, leb, ltb, Float, if◌then◌else◌}
+use Rattle.std.specs.Prelude.{ℕ, leb, ltb, Float, if◌then◌else◌}
 use Rattle.std.specs.Float.Ieee.{neg}
 use Rattle.checked.specs.Checked.{Checked, first, nine, eight, within}
 use Rattle.checked.specs.Patterns.{high_word}

@@ -1,6 +1,5 @@
 -- Which angles are refused, and by which number; sine and cosine of the zeros. Assumes nothing.
-use Rattle.std.specs.Prelude.{ℕ, ◌≡◌, refl, Bool, true, false, cond, T, Float}
-use Rattle.std.proofs.Common.{sym, ap, ◌∙◌, subst}
+use Rattle.std.specs.Prelude.{◌≡◌, refl, Bool, true, false, T, Float}
 use Rattle.std.specs.Float.Ieee.{neg, le, to_bits, of_bits}
 use Rattle.checked.specs.Refusals.{ANGLE_TOO_LARGE, NOT_FINITE}
 use Rattle.checked.specs.Checked.{first, nine, eight, is_finite, within}

@@ -1,6 +1,6 @@
 -- Values of sine and cosine, which antt computes from the definitions: the special values of ISO C,
 -- Annex F, and the angles that are refused; then answers that libm 0.2.1 gave. Assumes nothing.
-use Rattle.std.specs.Prelude.{ℕ, ◌≡◌, refl, Bool, List, [], ◌∷◌, map, Float}
+use Rattle.std.specs.Prelude.{ℕ, ◌≡◌, refl, List, [], ◌∷◌, map, Float}
 use Rattle.std.specs.Float.Ieee.{add, sub, mul, neg, le, to_signed, to_bits, of_bits}
 use Rattle.checked.specs.Refusals.{ANGLE_TOO_LARGE, NOT_FINITE}
 use Rattle.checked.specs.Checked.{Checked, first, is_finite, nine, eight, within}

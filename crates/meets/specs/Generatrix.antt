@@ -1,6 +1,6 @@
 -- The point where a generatrix meets the cylinder, and its derivatives in the angle. What a call reads is what it binds.
 use Rattle.std.specs.Prelude.{Float}
-use Rattle.checked.specs.Checked.{Checked, first, ◌>>=◌, given, finite, num, minus, ◌⊕◌, ◌⊖◌, ◌⊗◌, ◌⊘◌}
+use Rattle.checked.specs.Checked.{Checked, ◌>>=◌, given, num, minus, ◌⊕◌, ◌⊗◌, ◌⊘◌}
 use Rattle.checked.specs.Numbers.{half, two}
 use Rattle.directions.specs.Directions.{across_c}
 use Rattle.vectors.specs.declared.Vec3.{Vec3}

@@ -1,6 +1,6 @@
 -- Which notes suffice of a derivative: its quotient is finite only where all before it is. Assumes nothing.
-use Rattle.std.specs.Prelude.{◌≡◌, refl, Float}
-use Rattle.checked.specs.Checked.{Checked, first, nine}
+use Rattle.std.specs.Prelude.{◌≡◌, Float}
+use Rattle.checked.specs.Checked.{nine}
 use Rattle.checked.specs.Laws.{rules as checked_rules}
 use Rattle.directions.specs.Laws.{rules as directions_rules}
 use Rattle.vectors.specs.declared.Vec3.{Vec3}

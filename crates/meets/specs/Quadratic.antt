@@ -1,7 +1,7 @@
 -- A pipe's generatrices and the cylinder that they meet: `Meet::point`, cut where a number is used more than once.
 use Rattle.std.specs.Prelude.{cond, Float}
 use Rattle.std.specs.Float.Ieee.{le}
-use Rattle.checked.specs.Checked.{Checked, first, ◌>>=◌, given, finite, num, minus, ◌⊕◌, ◌⊖◌, ◌⊗◌, ◌⊘◌}
+use Rattle.checked.specs.Checked.{Checked, ◌>>=◌, given, num, minus, ◌⊕◌, ◌⊖◌, ◌⊗◌, ◌⊘◌}
 use Rattle.checked.specs.Numbers.{zero}
 use Rattle.libm.specs.Sincos.{sincos_c}
 use Rattle.directions.specs.Directions.{over_length_c, across_c}

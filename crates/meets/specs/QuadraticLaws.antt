@@ -1,14 +1,12 @@
 -- Which notes suffice along a generatrix. Assumes nothing.
-use Rattle.std.specs.Prelude.{◌≡◌, refl, Bool, true, false, Float}
-use Rattle.std.specs.Float.{binary64}
-use Rattle.std.specs.Float.Ieee.{sub, mul, div, le}
-use Rattle.checked.specs.Checked.{Checked, first, nine}
+use Rattle.std.specs.Prelude.{◌≡◌, Float}
+use Rattle.checked.specs.Checked.{first, nine}
 use Rattle.checked.specs.Laws.{rules as checked_rules}
 use Rattle.libm.specs.Sincos.{sincos_c}
 use Rattle.directions.specs.Directions.{over_length_c}
 use Rattle.directions.specs.Laws.{over_length_refusal, rules as directions_rules}
 use Rattle.vectors.specs.declared.Vec3.{Vec3}
-use Rattle.vectors.specs.Vectors.{along_z, nines, cross_c, dot_c}
+use Rattle.vectors.specs.Vectors.{along_z, nines, cross_c}
 use Rattle.vectors.specs.Laws.{rules as vectors_rules}
 use Rattle.meets.specs.declared.quadratic.Pipe.{Pipe}
 use Rattle.meets.specs.declared.quadratic.Quadratic.{Quadratic}

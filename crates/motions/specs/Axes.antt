@@ -1,5 +1,5 @@
 -- A point and a direction, moved together.
-use Rattle.checked.specs.Checked.{Checked, first, ◌>>=◌, given}
+use Rattle.checked.specs.Checked.{Checked, ◌>>=◌, given}
 use Rattle.vectors.specs.declared.Vec3.{Vec3}
 use Rattle.motions.specs.declared.Rigid.{Rigid}
 use Rattle.motions.specs.Motions.{apply_c, apply_vector_c}

@@ -1,12 +1,12 @@
 -- The refusal of each step of a motion in the notes that suffice. Assumes nothing.
-use Rattle.std.specs.Prelude.{ℕ, ◌≡◌, refl, Bool, true, false, ◌&&◌, ◌||◌, T, Float}
-use Rattle.checked.specs.Checked.{Checked, first, nine, is_finite}
-use Rattle.checked.specs.Laws.{tells, two, nine_ok, ok_and, rules as checked_rules}
+use Rattle.std.specs.Prelude.{◌≡◌, Float}
+use Rattle.checked.specs.Checked.{first, nine}
+use Rattle.checked.specs.Laws.{rules as checked_rules}
 use Rattle.vectors.specs.declared.Vec3.{Vec3}
-use Rattle.vectors.specs.Vectors.{is_finite3, nines, space}
-use Rattle.vectors.specs.Laws.{nines_are, nines_ok, rules as vectors_rules}
+use Rattle.vectors.specs.Vectors.{nines, space}
+use Rattle.vectors.specs.Laws.{nines_are, rules as vectors_rules}
 use Rattle.motions.specs.declared.Rigid.{Rigid}
-use Rattle.motions.specs.Motions.{diagonal_c, more_c, less_c, row_c, rows_c, rows_nine, rotation_c, apply_vector_c, apply_c}
+use Rattle.motions.specs.Motions.{diagonal_c, more_c, less_c, rows_c, rows_nine, apply_vector_c, apply_c}
 
 pub diagonal_nine : (t a c : Float) → (diagonal_c t a c).refusal ≡ nine (diagonal_c t a c).value
 unfolding diagonal_c

@@ -1,8 +1,7 @@
 -- Angles turned about a centre.
 use Rattle.std.specs.Prelude.{cond, Float}
-use Rattle.std.specs.Float.{binary64}
-use Rattle.std.specs.Float.Ieee.{le, of_bits}
-use Rattle.checked.specs.Checked.{Checked, first, ◌>>=◌, given, finite, num, ◌⊕◌, ◌⊖◌}
+use Rattle.std.specs.Float.Ieee.{le}
+use Rattle.checked.specs.Checked.{Checked, ◌>>=◌, finite, num, ◌⊕◌, ◌⊖◌}
 use Rattle.checked.specs.Numbers.{zero, tau}
 use Rattle.libm.specs.Atan2.{atan2}
 

@@ -1,9 +1,8 @@
 -- A turn's refusal is that of what it gives.
-use Rattle.std.specs.Prelude.{ℕ, ◌≡◌, refl, Bool, true, false, cond, Float}
+use Rattle.std.specs.Prelude.{ℕ, ◌≡◌, Bool, true, false, cond, Float}
 use Rattle.std.proofs.Common.{sym, ◌∙◌, ap}
-use Rattle.std.specs.Float.{binary64}
-use Rattle.std.specs.Float.Ieee.{add, sub, le}
-use Rattle.checked.specs.Checked.{Checked, first, nine, finite, num, given, ◌⊕◌, ◌⊖◌}
+use Rattle.std.specs.Float.Ieee.{le}
+use Rattle.checked.specs.Checked.{first, nine, num, ◌⊕◌, ◌⊖◌}
 use Rattle.checked.specs.Laws.{first_assoc, first_same, rules as checked_rules}
 use Rattle.checked.specs.Numbers.{zero, tau}
 use Rattle.profile_arcs.specs.Angles.{atan2_c, angle_c, ahead_c, back_c}

@@ -1,8 +1,7 @@
 -- An arc of a profile, and how far it turns.
-use Rattle.std.specs.Prelude.{Bool, cond, ◌&&◌, Float}
-use Rattle.std.specs.Float.{binary64}
+use Rattle.std.specs.Prelude.{cond, ◌&&◌, Float}
 use Rattle.checked.specs.Refusals.{OUT_OF_RANGE}
-use Rattle.checked.specs.Checked.{Checked, first, ◌>>=◌, given, finite, num, ◌⊕◌, ◌⊖◌, ◌⊗◌, Due, answered}
+use Rattle.checked.specs.Checked.{Checked, ◌>>=◌, given, num, ◌⊕◌, ◌⊖◌, ◌⊗◌, Due, answered}
 use Rattle.checked.specs.Tests.{fails, passing}
 use Rattle.vectors.specs.declared.Vec2.{Vec2}
 use Rattle.vectors.specs.Vectors.{within2}

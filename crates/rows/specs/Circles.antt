@@ -1,7 +1,7 @@
 -- Points of a circle at even angles. What is said of an arc's points is brought back to this.
 use Rattle.std.specs.Prelude.{ℕ, Float}
 use Rattle.checked.specs.Numbers.{float}
-use Rattle.checked.specs.Checked.{Checked, first, ◌>>=◌, given, finite, num, ◌⊗◌, ◌⊘◌}
+use Rattle.checked.specs.Checked.{Checked, ◌>>=◌, num, ◌⊗◌, ◌⊘◌}
 use Rattle.vectors.specs.declared.Vec3.{Vec3}
 use Rattle.vectors.specs.Vectors.{vec, ◌⊞◌, ◌⊠◌}
 use Rattle.libm.specs.Sincos.{sincos_c}

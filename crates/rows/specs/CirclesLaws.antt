@@ -2,7 +2,7 @@
 use Rattle.std.specs.Prelude.{ℕ, ◌≡◌, Float}
 use Rattle.std.specs.Float.{binary64}
 use Rattle.std.specs.Float.Ieee.{mul, div}
-use Rattle.checked.specs.Checked.{Checked, first}
+use Rattle.checked.specs.Checked.{first}
 use Rattle.checked.specs.Laws.{rules as checked_rules}
 use Rattle.checked.specs.Numbers.{float}
 use Rattle.vectors.specs.Vectors.{nines}

@@ -1,7 +1,7 @@
 -- `Trace::v`: v at u of a curve of a development that is v of u; none for a meet with `turn`, and in no other case.
 use Rattle.std.specs.Prelude.{Bool, ◌&&◌, Float}
 use Rattle.checked.specs.Refusals.{OUT_OF_RANGE}
-use Rattle.checked.specs.Checked.{Checked, first, ◌>>=◌, given, finite, num, ◌⊘◌, within, Due, due, refused, answered}
+use Rattle.checked.specs.Checked.{Checked, ◌>>=◌, given, num, ◌⊘◌, within, Due, due, refused, answered}
 use Rattle.checked.specs.Tests.{fails, ◌or◌, passing, neutral_test}
 use Rattle.waves.specs.Values as wave_values
 use Rattle.waves.specs.Entries.{wave_within}

@@ -2,7 +2,7 @@
 -- A plane meets the neutral layer of a rolled sheet in an ellipse, and an ellipse rolled out is v = a + b·cos(u/n) +
 -- c·sin(u/n), exactly.
 use Rattle.std.specs.Prelude.{Float}
-use Rattle.checked.specs.Checked.{Checked, first, ◌>>=◌, given, finite, num, minus, ◌⊕◌, ◌⊖◌, ◌⊗◌, ◌⊘◌}
+use Rattle.checked.specs.Checked.{Checked, ◌>>=◌, given, num, minus, ◌⊕◌, ◌⊖◌, ◌⊗◌, ◌⊘◌}
 use Rattle.libm.specs.declared.sincos.Sines.{Sines}
 use Rattle.libm.specs.Sincos.{sincos_c}
 use Rattle.waves.specs.declared.values.Jet.{Jet}

@@ -1,7 +1,7 @@
 -- Which notes of a wave's values suffice. Assumes nothing.
 use Rattle.std.specs.Prelude.{◌≡◌, Float}
 use Rattle.std.specs.Float.Ieee.{binary64, add, mul, div, neg}
-use Rattle.checked.specs.Checked.{Checked, first, nine}
+use Rattle.checked.specs.Checked.{first, nine}
 use Rattle.checked.specs.Laws.{swap, rules as checked_rules}
 use Rattle.libm.specs.Sincos.{sincos_c, sines_or_zeros}
 use Rattle.waves.specs.Values.{v_c, slope_c, bend_c, with_slope_c, derivatives_c}

@@ -1,4 +1,3 @@
-use Rattle.std.proofs.Common.{rules}
 use Rattle.chord_counts.proofs.are_within.Goals as goal
 
 pub returns : goal.returns

@@ -1,4 +1,4 @@
-use Rattle.std.proofs.Common.{sym, rules}
+use Rattle.std.proofs.Common.{sym}
 use Rattle.chord_counts.specs.Chords.{per_turn_due}
 use Rattle.checked.specs.TestsLaws.{passing_none, passing_some}
 use Rattle.chord_counts.proofs.per_turn.Goals as goal

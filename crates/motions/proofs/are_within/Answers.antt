@@ -1,4 +1,3 @@
-use borrow.Author.Rules.{rules}
 use Rattle.motions.specs.Motions.{within_rigid}
 use Rattle.motions.proofs.are_within.Goals as goal
 

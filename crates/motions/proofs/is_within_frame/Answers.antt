@@ -1,4 +1,3 @@
-use borrow.Author.Rules.{rules}
 use Rattle.motions.proofs.is_within_frame.Goals as goal
 
 pub returns : goal.returns

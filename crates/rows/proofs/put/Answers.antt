@@ -1,7 +1,6 @@
 use Prim.Native.Nat.{◌*◌}
 use native.Mathlib.Omega.{arith}
 use lib.ListN.{length-set}
-use borrow.Author.Rules.{rules}
 use Rattle.rows.specs.Laws.{three_stored}
 use Rattle.rows.proofs.put.Goals as goal
 

@@ -1,4 +1,3 @@
-use borrow.Author.Rules.{rules}
 use Rattle.traces.specs.Traces.{meet_c}
 use Rattle.checked.specs.Laws.{rules as checked_rules}
 use Rattle.traces.proofs.meet_v.Goals as goal

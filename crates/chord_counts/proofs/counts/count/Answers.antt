@@ -1,4 +1,3 @@
-use Rattle.std.proofs.Common.{rules}
 use Rattle.chord_counts.specs.Counts.{count_c}
 use Rattle.checked.specs.Laws.{rules as checked_rules}
 use Rattle.chord_counts.proofs.counts.count.Goals as goal

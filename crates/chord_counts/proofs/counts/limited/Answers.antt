@@ -1,4 +1,4 @@
-use Rattle.std.proofs.Common.{arith, rules}
+use Rattle.std.proofs.Common.{arith}
 use lib.Ieee.{of_bits, neg}
 use Rattle.checked.specs.PatternLaws.{yes}
 use Rattle.chord_counts.specs.Laws.{none_left, at_most, fits_u64}

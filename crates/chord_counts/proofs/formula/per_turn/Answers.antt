@@ -1,4 +1,3 @@
-use Rattle.std.proofs.Common.{rules}
 use Rattle.chord_counts.specs.Chords.{per_turn_c}
 use Rattle.checked.specs.Laws.{rules as checked_rules}
 use Rattle.vectors.specs.Laws.{rules as vectors_rules}

@@ -1,4 +1,3 @@
-use borrow.Author.Rules.{rules}
 use Rattle.developments.specs.Developments.{development_within}
 use Rattle.developments.proofs.Development.is_within_limit.Goals as goal
 

@@ -1,4 +1,3 @@
-use borrow.Author.Rules.{rules}
 use Rattle.developments.specs.Formulas.{along_c}
 use Rattle.developments.specs.Laws.{along_refusal}
 use mathlib.Core.Path.{sym, ◌∙◌}

@@ -1,4 +1,3 @@
-use borrow.Author.Rules.{rules}
 use Rattle.developments.specs.Formulas.{point_c}
 use Rattle.checked.specs.Laws.{first_assoc, zero_first}
 use Rattle.developments.specs.Laws.{point_refusal}

@@ -1,4 +1,3 @@
-use borrow.Author.Rules.{rules}
 use Rattle.developments.specs.Formulas.{radial_at_c}
 use Rattle.checked.specs.Laws.{first_assoc}
 use Rattle.developments.specs.Laws.{radial_refusal}

@@ -1,4 +1,3 @@
-use borrow.Author.Rules.{rules}
 use Rattle.directions.specs.Directions.{across_c}
 use Rattle.directions.proofs.formula.across.Goals as goal
 

@@ -1,4 +1,3 @@
-use borrow.Author.Rules.{rules}
 use Rattle.directions.specs.Directions.{length_c}
 use Rattle.directions.proofs.formula.length.Goals as goal
 

@@ -1,4 +1,3 @@
-use borrow.Author.Rules.{rules}
 use Rattle.directions.specs.Directions.{over_length_c}
 use Rattle.checked.specs.Laws.{first_assoc, zero_first}
 use Rattle.directions.specs.Laws.{over_length_refusal}

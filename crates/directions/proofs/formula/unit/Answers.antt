@@ -1,4 +1,3 @@
-use borrow.Author.Rules.{rules}
 use Rattle.directions.specs.Directions.{unit_c}
 use Rattle.directions.proofs.formula.unit.Goals as goal
 

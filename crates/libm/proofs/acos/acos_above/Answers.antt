@@ -1,4 +1,3 @@
-use borrow.Author.Rules.{rules}
 use Rattle.libm.proofs.acos.acos_above.Goals as goal
 
 pub returns : goal.returns

@@ -1,4 +1,3 @@
-use borrow.Author.Rules.{rules}
 use Rattle.libm.specs.Acos.{acos_far}
 use borrow.Author.Tests.{eq-eqb, ne_eqb}
 use Rattle.libm.proofs.acos.acos_far.Goals as goal

@@ -1,4 +1,3 @@
-use borrow.Author.Rules.{rules}
 use Rattle.libm.specs.Acos.{acos_near}
 use borrow.Author.Tests.{le-leb, lt-leb}
 use Rattle.libm.proofs.acos.acos_near.Goals as goal

@@ -1,6 +1,5 @@
 use Rattle.checked.specs.PatternLaws.{no}
 use Rattle.libm.specs.AtanLaws.{atan_nan}
-use borrow.Author.Rules.{rules}
 use Rattle.libm.specs.Atan.{atan}
 use borrow.Author.Tests.{lt-ltb, le-ltb, le-leb, lt-leb}
 use mathlib.Core.Path.{sym, ◌∙◌}

@@ -1,9 +1,7 @@
 use lib.Dec.{T}
-use lib.Ieee.{binary64, fits}
 use Rattle.checked.specs.PatternLaws.{no}
 use Rattle.float_bits.specs.Laws.{high_word_fabs, signed_fabs, fabs_twice, fabs_nan}
 use Rattle.libm.specs.AtanLaws.{atan_nan_size}
-use borrow.Author.Rules.{rules}
 use Rattle.libm.specs.Atan.{atan}
 use borrow.Author.Tests.{lt-ltb, le-ltb, le-leb, lt-leb}
 use mathlib.Core.Path.{sym, ◌∙◌, subst}

@@ -1,7 +1,5 @@
 use mathlib.Core.Path.{sym, subst}
-use borrow.Author.Rules.{rules}
 use lib.Dec.{T}
-use lib.Ieee.{binary64, fits}
 use Rattle.float_bits.specs.Laws.{fabs_bits, size_number}
 use Rattle.libm.proofs.atan.fabs_number.Goals as goal
 

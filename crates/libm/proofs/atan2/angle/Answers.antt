@@ -1,8 +1,6 @@
 use native.Mathlib.Omega.{arith}
 use lib.Dec.{T}
-use lib.Ieee.{binary64, fits}
 use Rattle.float_bits.specs.Laws.{sign_most}
-use borrow.Author.Rules.{rules}
 use Rattle.libm.specs.Atan2.{angle}
 use borrow.Author.Tests.{eq-eqb, ne_eqb}
 use mathlib.Core.Path.{sym, ◌∙◌, subst}

@@ -1,4 +1,3 @@
-use borrow.Author.Rules.{rules}
 use Rattle.libm.specs.Atan2.{atan2}
 use mathlib.Core.Path.{sym, ◌∙◌}
 use Rattle.libm.proofs.atan2.atan2.Goals as goal

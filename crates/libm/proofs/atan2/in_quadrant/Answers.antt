@@ -1,4 +1,3 @@
-use borrow.Author.Rules.{rules}
 use Rattle.float_bits.specs.Laws.{chosen}
 use Rattle.libm.proofs.atan2.in_quadrant.Goals as goal
 

@@ -1,4 +1,3 @@
-use borrow.Author.Rules.{rules}
 use Rattle.libm.specs.Atan2.{is_one}
 use Rattle.libm.proofs.atan2.is_one.Goals as goal
 

@@ -1,4 +1,3 @@
-use borrow.Author.Rules.{rules}
 use Rattle.libm.specs.Atan2.{ratio_angle}
 use Rattle.libm.proofs.atan2.ratio_angle.Goals as goal
 

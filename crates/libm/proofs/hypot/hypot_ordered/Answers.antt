@@ -1,5 +1,4 @@
 use Rattle.float_bits.specs.Laws.{gap_yes, gap_no}
-use borrow.Author.Rules.{rules}
 use Rattle.libm.specs.Hypot.{hypot_ordered}
 use borrow.Author.Tests.{lt-ltb, le-ltb, eq-eqb, ne_eqb}
 use Rattle.libm.proofs.hypot.hypot_ordered.Goals as goal

@@ -1,4 +1,3 @@
-use borrow.Author.Rules.{rules}
 use Rattle.libm.proofs.hypot.scaled.Goals as goal
 
 pub returns : goal.returns

@@ -1,6 +1,5 @@
 use Rattle.float_bits.specs.Laws.{gap_yes, gap_no}
 use Rattle.libm.proofs.rem_pio2.Quarters.{tmp_no_nan, tmp_ends}
-use borrow.Author.Rules.{rules}
 use Rattle.libm.specs.RemPio2.{medium}
 use Rattle.libm.proofs.rem_pio2.medium.Goals as goal
 

@@ -1,4 +1,3 @@
-use borrow.Author.Rules.{rules}
 use Rattle.libm.specs.RemPio2.{rem_pio2}
 use borrow.Author.Tests.{le-leb, lt-leb}
 use Rattle.libm.proofs.rem_pio2.rem_pio2.Goals as goal

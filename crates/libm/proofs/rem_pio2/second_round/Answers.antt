@@ -1,5 +1,4 @@
 use Rattle.float_bits.specs.Laws.{gap_yes, gap_no}
-use borrow.Author.Rules.{rules}
 use Rattle.libm.specs.RemPio2.{second_round}
 use Rattle.libm.proofs.rem_pio2.second_round.Goals as goal
 

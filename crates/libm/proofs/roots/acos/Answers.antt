@@ -1,5 +1,4 @@
 use Rattle.float_bits.specs.Laws.{nan_high}
-use borrow.Author.Rules.{rules}
 use Rattle.libm.specs.Roots.{acos}
 use borrow.Author.Tests.{lt-ltb, le-ltb, le-leb, lt-leb, eq-eqb, ne_eqb}
 use mathlib.Core.Path.{sym, ◌∙◌}

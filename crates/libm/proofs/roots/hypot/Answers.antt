@@ -1,4 +1,3 @@
-use borrow.Author.Rules.{rules}
 use Rattle.libm.specs.Roots.{hypot}
 use Rattle.libm.proofs.roots.hypot.Goals as goal
 

@@ -1,5 +1,4 @@
 use Rattle.checked.specs.Checked.{eight}
-use borrow.Author.Rules.{rules}
 use Rattle.checked.specs.Laws.{rules as checked_rules}
 use mathlib.Core.Path.{sym, ◌∙◌}
 use Rattle.libm.proofs.sincos.angle_refusal.Goals as goal

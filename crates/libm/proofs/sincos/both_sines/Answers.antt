@@ -1,4 +1,3 @@
-use borrow.Author.Rules.{rules}
 use Rattle.libm.specs.Sincos.{sines}
 use borrow.Author.Tests.{le-leb, lt-leb}
 use Rattle.libm.proofs.sincos.both_sines.Goals as goal

@@ -1,4 +1,3 @@
-use borrow.Author.Rules.{rules}
 use Rattle.checked.specs.PatternLaws.{yes}
 use Rattle.libm.specs.Sincos.{sine_or_zero}
 use Rattle.libm.specs.SincosLaws.{meets_none}

@@ -1,4 +1,3 @@
-use borrow.Author.Rules.{rules}
 use Rattle.checked.specs.PatternLaws.{yes}
 use Rattle.libm.specs.Sincos.{sines_or_zeros}
 use Rattle.libm.specs.SincosLaws.{meets_none}

@@ -1,4 +1,3 @@
-use borrow.Author.Rules.{rules}
 use Rattle.libm.specs.Sincos.{sine}
 use borrow.Author.Tests.{le-leb, lt-leb}
 use Rattle.libm.proofs.sincos.sine.Goals as goal

@@ -1,5 +1,4 @@
 use Rattle.float_bits.specs.FloatBits.{choose}
-use borrow.Author.Rules.{rules}
 use Rattle.libm.specs.Sincos.{turned_sine}
 use borrow.Author.Tests.{eq-eqb, ne_eqb}
 use Rattle.libm.proofs.sincos.turned_sine.Goals as goal

@@ -1,4 +1,3 @@
-use borrow.Author.Rules.{rules}
 use Rattle.libm.specs.Sincos.{turned_sines}
 use Rattle.libm.proofs.sincos.turned_sines.Goals as goal
 

@@ -1,4 +1,3 @@
-use borrow.Author.Rules.{rules}
 use Rattle.meets.specs.Entries.{meet_within}
 use Rattle.meets.proofs.Meet.is_within_limit.Goals as goal
 

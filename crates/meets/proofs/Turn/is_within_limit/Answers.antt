@@ -1,4 +1,3 @@
-use borrow.Author.Rules.{rules}
 use Rattle.meets.specs.Entries.{turn_within}
 use Rattle.meets.proofs.Turn.is_within_limit.Goals as goal
 

@@ -1,4 +1,3 @@
-use borrow.Author.Rules.{rules}
 use Rattle.meets.specs.Meets.{height_c}
 use Rattle.meets.proofs.formula.height.Goals as goal
 

@@ -1,4 +1,3 @@
-use borrow.Author.Rules.{rules}
 use Rattle.meets.specs.Meets.{derivatives_c}
 use Rattle.meets.proofs.formula.jet.Goals as goal
 

@@ -1,4 +1,3 @@
-use borrow.Author.Rules.{rules}
 use Rattle.meets.specs.Meets.{pipe_c}
 use Rattle.meets.proofs.formula.pipe.Goals as goal
 

@@ -1,4 +1,3 @@
-use borrow.Author.Rules.{rules}
 use Rattle.meets.specs.Generatrix.{along_generatrix_c}
 use Rattle.meets.proofs.generatrix.ahead.Goals as goal
 

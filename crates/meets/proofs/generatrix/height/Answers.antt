@@ -1,4 +1,3 @@
-use borrow.Author.Rules.{rules}
 use Rattle.meets.specs.Generatrix.{height_c}
 use Rattle.checked.specs.Laws.{rules as checked_rules}
 use Rattle.meets.proofs.generatrix.height.Goals as goal

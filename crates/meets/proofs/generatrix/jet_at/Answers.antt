@@ -1,4 +1,3 @@
-use borrow.Author.Rules.{rules}
 use Rattle.meets.specs.Generatrix.{derivatives_c}
 use Rattle.checked.specs.Laws.{rules as checked_rules}
 use Rattle.meets.specs.GeneratrixLaws.{rules as reaches_rules}

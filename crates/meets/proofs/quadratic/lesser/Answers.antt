@@ -1,4 +1,3 @@
-use borrow.Author.Rules.{rules}
 use Rattle.meets.specs.Quadratic.{lesser_c}
 use Rattle.checked.specs.Laws.{rules as checked_rules}
 use Rattle.meets.proofs.quadratic.lesser.Goals as goal

@@ -1,4 +1,3 @@
-use borrow.Author.Rules.{rules}
 use Rattle.meets.specs.Quadratic.{other_c}
 use Rattle.meets.specs.QuadraticLaws.{other_refusal}
 use mathlib.Core.Path.{sym, ◌∙◌}

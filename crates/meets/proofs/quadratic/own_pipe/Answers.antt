@@ -1,4 +1,3 @@
-use borrow.Author.Rules.{rules}
 use Rattle.meets.specs.Quadratic.{own_c}
 use Rattle.checked.specs.Laws.{zero_first}
 use Rattle.meets.specs.QuadraticLaws.{own_refusal}

@@ -1,4 +1,3 @@
-use borrow.Author.Rules.{rules}
 use Rattle.motions.specs.Motions.{apply_due}
 use Rattle.motions.specs.Laws.{rules as motions_rules}
 use Rattle.checked.specs.TestsLaws.{passing_none, passing_some}

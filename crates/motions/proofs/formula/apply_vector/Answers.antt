@@ -1,4 +1,3 @@
-use borrow.Author.Rules.{rules}
 use Rattle.motions.specs.Motions.{apply_vector_c}
 use Rattle.motions.proofs.formula.apply_vector.Goals as goal
 

@@ -1,4 +1,3 @@
-use borrow.Author.Rules.{rules}
 use Rattle.motions.specs.Motions.{rotation_c}
 use Rattle.checked.specs.Laws.{rules as checked_rules}
 use Rattle.motions.specs.Laws.{rules as motions_rules}

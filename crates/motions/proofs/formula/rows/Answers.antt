@@ -1,4 +1,3 @@
-use borrow.Author.Rules.{rules}
 use Rattle.motions.specs.Motions.{rows_c}
 use Rattle.motions.proofs.formula.rows.Goals as goal
 

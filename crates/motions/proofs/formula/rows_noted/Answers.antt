@@ -1,4 +1,3 @@
-use borrow.Author.Rules.{rules}
 use Rattle.motions.specs.Motions.{rows_nine}
 use Rattle.checked.specs.Laws.{rules as checked_rules}
 use Rattle.motions.proofs.formula.rows_noted.Goals as goal

@@ -1,4 +1,3 @@
-use borrow.Author.Rules.{rules}
 use Rattle.profile_arcs.proofs.ProfileArc.is_handed.Goals as goal
 
 pub returns : goal.returns

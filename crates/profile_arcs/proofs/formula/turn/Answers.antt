@@ -1,4 +1,3 @@
-use borrow.Author.Rules.{rules}
 use Rattle.profile_arcs.specs.Profiles.{turn_c}
 use Rattle.checked.specs.Laws.{first_assoc}
 use Rattle.profile_arcs.specs.Laws.{turn_refusal}

@@ -1,4 +1,3 @@
-use borrow.Author.Rules.{rules}
 use Rattle.profile_arcs.proofs.formula.turned.Goals as goal
 
 pub returns-then-ccw : goal.returns-then-ccw

@@ -1,10 +1,7 @@
-use mathlib.Core.Path.{◌≡◌, refl, sym, ◌∙◌, ap}
-use Prim.Native.Nat.{ℕ, ◌≤◌, ◌-◌}
-use native.Mathlib.Omega.{arith}
-use borrow.Author.Rules.{rules}
+use mathlib.Core.Path.{◌≡◌}
+use Prim.Native.Nat.{◌≤◌, ◌-◌}
 use Rattle.rows.specs.Circles.{circle_at_c}
 use Rattle.rows.specs.Rows.{up_to}
-use Rattle.rows.specs.Laws.{up_to_refusal}
 use Rattle.rows.proofs.circles.noted_all.Given as goal
 
 -- `i` points are noted

@@ -1,4 +1,3 @@
-use borrow.Author.Rules.{rules}
 use Rattle.rows.specs.Circles.{circle_c}
 use Rattle.checked.specs.Laws.{first_assoc}
 use Rattle.rows.specs.CirclesLaws.{rim_refusal}

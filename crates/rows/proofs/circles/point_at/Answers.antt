@@ -1,4 +1,3 @@
-use borrow.Author.Rules.{rules}
 use Rattle.rows.specs.Circles.{circle_at_c}
 use Rattle.rows.specs.CirclesLaws.{rim_at_refusal}
 use mathlib.Core.Path.{sym, ◌∙◌}

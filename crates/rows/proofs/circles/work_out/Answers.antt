@@ -1,10 +1,8 @@
 use mathlib.Core.Path.{◌≡◌, refl, ◌∙◌, ap}
 use mathlib.Core.List.{◌++◌}
-use Prim.Native.Nat.{ℕ, ◌+◌, ◌*◌, ◌≤◌, ◌-◌}
+use Prim.Native.Nat.{ℕ, ◌*◌}
 use native.Mathlib.Omega.{arith}
-use lib.ListN.{length, drop, length-set}
-use borrow.Author.Rules.{rules}
-use Rattle.checked.specs.Checked.{Checked}
+use lib.ListN.{drop, length-set}
 use Rattle.rows.specs.Circles.{circle_at_c}
 use Rattle.rows.specs.Rows.{up_to, flat_items, flat, point as points}
 use Rattle.rows.specs.Laws.{up_to_refusal, item_put}

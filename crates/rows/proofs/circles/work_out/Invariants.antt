@@ -1,13 +1,9 @@
-use mathlib.Core.Path.{◌≡◌, refl, ◌∙◌, ap}
+use mathlib.Core.Path.{◌≡◌}
 use mathlib.Core.List.{◌++◌}
-use Prim.Native.Nat.{ℕ, ◌+◌, ◌*◌, ◌≤◌, ◌-◌}
-use native.Mathlib.Omega.{arith}
-use lib.ListN.{length, drop, length-set}
-use borrow.Author.Rules.{rules}
-use Rattle.checked.specs.Checked.{Checked}
+use Prim.Native.Nat.{◌*◌, ◌≤◌, ◌-◌}
+use lib.ListN.{length, drop}
 use Rattle.rows.specs.Circles.{circle_at_c}
-use Rattle.rows.specs.Rows.{up_to, flat_items, flat, point as points}
-use Rattle.rows.specs.Laws.{up_to_refusal, item_put}
+use Rattle.rows.specs.Rows.{up_to, flat}
 use Rattle.rows.proofs.circles.work_out.Given as goal
 
 -- `i` points are noted and stored, and the rest of the buffer is as it was

@@ -1,4 +1,3 @@
-use borrow.Author.Rules.{rules}
 use lib.ListN.{length}
 use Rattle.rows.specs.Circles.{circle_at_c}
 use Rattle.rows.specs.Rows.{point}

@@ -1,7 +1,5 @@
-use mathlib.Core.Path.{◌≡◌, refl, sym, ◌∙◌}
-use borrow.Author.Rules.{rules}
-use lib.ListN.{length}
-use Rattle.checked.specs.Checked.{Checked, first}
+use mathlib.Core.Path.{◌≡◌, sym, ◌∙◌}
+use Rattle.checked.specs.Checked.{first}
 use Rattle.rows.specs.Rows.{up_to, point}
 use Rattle.rows.specs.Circles.{circle_at_c}
 use Rattle.rows.specs.Laws.{flat_length, flat_part, some_due_lem, some_refused}

@@ -1,4 +1,3 @@
-use borrow.Author.Rules.{rules}
 use Rattle.traces.specs.Traces.{trace_within}
 use Rattle.traces.proofs.Trace.is_within_limit.Goals as goal
 

@@ -1,4 +1,3 @@
-use borrow.Author.Rules.{rules}
 use Rattle.traces.specs.Traces.{v_c}
 use Rattle.checked.specs.Laws.{rules as checked_rules}
 use Rattle.traces.proofs.Trace.v_by_formula.Goals as goal

@@ -1,4 +1,3 @@
-use borrow.Author.Rules.{rules}
 use Rattle.waves.specs.Entries.{wave_within}
 use Rattle.waves.proofs.Wave.is_within_limit.Goals as goal
 

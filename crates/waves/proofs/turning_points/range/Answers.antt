@@ -1,4 +1,3 @@
-use borrow.Author.Rules.{rules}
 use Rattle.waves.specs.TurningPoints.{range_c}
 use Rattle.waves.proofs.turning_points.range.Goals as goal
 

@@ -1,4 +1,3 @@
-use borrow.Author.Rules.{rules}
 use Rattle.waves.specs.TurningPoints.{start_c}
 use Rattle.checked.specs.Laws.{zero_first}
 use Rattle.waves.specs.TurningPointsLaws.{start_refusal}

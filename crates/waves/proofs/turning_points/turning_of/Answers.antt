@@ -1,4 +1,3 @@
-use borrow.Author.Rules.{rules}
 use Rattle.waves.specs.TurningPoints.{turning_c}
 use Rattle.checked.specs.Laws.{rules as checked_rules}
 use Rattle.waves.proofs.turning_points.turning_of.Goals as goal

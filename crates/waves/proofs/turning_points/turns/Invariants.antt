@@ -1,17 +1,11 @@
 use Prim.Native.Nat.{ℕ}
-use mathlib.Core.Path.{◌≡◌, sym, ◌∙◌, ap}
-use borrow.Author.Rules.{rules}
-use native.Mathlib.Omega.{arith}
 use Rattle.checked.specs.Refusals.{COUNT_TOO_LARGE}
 use Rattle.checked.specs.Checked.{Checked}
-use Rattle.checked.specs.Laws.{first_zero}
 use Rattle.checked.specs.Loops.{while_c}
-use Rattle.checked.specs.LoopsLaws.{Remains, remains_whole, remains_more, remains_none, remains_over}
-use Rattle.waves.specs.declared.turning_points.Span.{Span}
+use Rattle.checked.specs.LoopsLaws.{Remains}
 use Rattle.waves.specs.declared.turning_points.Turning.{Turning}
 use Rattle.waves.specs.declared.turning_points.RangeSoFar.{RangeSoFar}
-use Rattle.waves.specs.TurningPoints.{TURNING_POINTS, inside_c, taken_c, turns_c}
-use Rattle.waves.specs.TurningPointsLaws.{inside_value, inside_refusal, step_refusal}
+use Rattle.waves.specs.TurningPoints.{TURNING_POINTS, inside_c, taken_c}
 use Rattle.waves.proofs.turning_points.turns.Given as goal
 
 -- the turning points that remain

@@ -1,4 +1,3 @@
-use borrow.Author.Rules.{rules}
 use Rattle.waves.specs.Values.{slope_c}
 use Rattle.checked.specs.Laws.{first_assoc}
 use Rattle.waves.specs.ValuesLaws.{slope_refusal}
