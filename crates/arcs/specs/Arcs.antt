@@ -1,7 +1,7 @@
 -- The arc of an edge: counterclockwise about `axis`, around `center`, from the direction of one
 -- point to that of another. Its parts stand on the pages `Sweep`, `Points`, `Extremes`
 -- and `Chords`.
-use Rattle.checked.specs.Checked.{Checked, first, ◌>>=◌, given}
+use Rattle.checked.specs.Checked.{Checked, ◌>>=◌, given}
 use Rattle.vectors.specs.Vectors.{neg_c}
 use Rattle.arcs.specs.declared.Arc.{Arc}
 

@@ -1,7 +1,7 @@
 -- Points of an arc for drawing, both ends excluded: into how many chords it is cut, and the points
 -- between them.
 use Rattle.std.specs.Prelude.{ℕ, ◌-◌, Bool, ◌&&◌, List, Float}
-use Rattle.checked.specs.Checked.{Checked, first, ◌>>=◌, given, finite, num, within, ◌⊗◌, ◌⊘◌, Due, answered}
+use Rattle.checked.specs.Checked.{Checked, ◌>>=◌, given, num, within, ◌⊗◌, ◌⊘◌, Due, answered}
 use Rattle.checked.specs.Numbers.{one, tau, float}
 use Rattle.vectors.specs.declared.Vec3.{Vec3}
 use Rattle.chord_counts.specs.Chords.{per_turn_c}

@@ -16,11 +16,11 @@ use Rattle.vectors.specs.Laws.{nines_ok}
 use Rattle.directions.specs.Directions.{length_c, across_c}
 use Rattle.chord_counts.specs.Chords.{per_turn_c}
 use Rattle.chord_counts.specs.Counts.{MOST, count_c}
-use Rattle.rows.specs.Rows.{up_to, fits, all_refusal, items_due, all_due}
+use Rattle.rows.specs.Rows.{fits, all_refusal, items_due, all_due}
 use Rattle.rows.specs.Laws.{up_to_same, up_to_before}
-use Rattle.rows.specs.Circles.{circle_c, circle_at_c}
+use Rattle.rows.specs.Circles.{circle_at_c}
 use Rattle.arcs.specs.Sweep.{sweep_c}
-use Rattle.arcs.specs.Points.{radius_vector_c, turned_c, at_c}
+use Rattle.arcs.specs.Points.{radius_vector_c, at_c}
 use Rattle.arcs.specs.PointsLaws.{spoke_refusal, rim_of, turned_refusal, turned_value}
 use Rattle.arcs.specs.declared.chords.Cut.{Cut}
 use Rattle.arcs.specs.Chords.{cut_c, inner_c, inners_due}

@@ -2,7 +2,7 @@
 -- worked out.
 use Rattle.std.specs.Prelude.{ℕ, List, Float}
 use Rattle.checked.specs.Refusals.{OUT_OF_RANGE}
-use Rattle.checked.specs.Checked.{Checked, first, ◌>>=◌, given, Due, due, refused, answered}
+use Rattle.checked.specs.Checked.{Checked, Due, due, refused, answered}
 use Rattle.checked.specs.Answers.{and_then}
 use Rattle.checked.specs.Tests.{fails, ◌or◌, passing, chord_test}
 use Rattle.vectors.specs.declared.Vec3.{Vec3}

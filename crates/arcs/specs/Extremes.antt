@@ -2,7 +2,7 @@
 -- lie on it. The circle lies across `axis`, around `center`.
 use Rattle.std.specs.Prelude.{cond, List, [], ◌∷◌, Float}
 use Rattle.std.specs.Float.Ieee.{lt, neg}
-use Rattle.checked.specs.Checked.{Checked, first, ◌>>=◌, given, num, ◌⊗◌, ◌⊘◌}
+use Rattle.checked.specs.Checked.{Checked, ◌>>=◌, given, num, ◌⊗◌, ◌⊘◌}
 use Rattle.checked.specs.Numbers.{zero, one}
 use Rattle.vectors.specs.declared.Vec3.{Vec3}
 use Rattle.vectors.specs.Vectors.{along_x, along_y, along_z, vec, ◌⊞◌, ◌⊠◌}

@@ -1,8 +1,7 @@
 -- Which notes of a circle's extreme points suffice.
-use Rattle.std.specs.Prelude.{ℕ, ◌≡◌, refl, Bool, true, false, cond, ◌&&◌, List, [], ◌∷◌, ◌++◌, T, Float}
-use Rattle.std.proofs.Common.{sym, ◌∙◌, ap}
+use Rattle.std.specs.Prelude.{◌≡◌, refl, Bool, true, false, cond, List, [], ◌∷◌, ◌++◌, T, Float}
 use Rattle.std.specs.Float.Ieee.{lt, neg}
-use Rattle.checked.specs.Checked.{Checked, first, ◌>>=◌, given, nine}
+use Rattle.checked.specs.Checked.{Checked, first, given, nine}
 use Rattle.checked.specs.Laws.{first_zero, zero_first, ok, rules as checked_rules}
 use Rattle.checked.specs.Numbers.{zero, one}
 use Rattle.vectors.specs.declared.Vec3.{Vec3}

@@ -1,6 +1,6 @@
 -- Points of a circle in space by their angle: counterclockwise about `axis`, around `center`.
 use Rattle.std.specs.Prelude.{Bool, ◌&&◌, Float}
-use Rattle.checked.specs.Checked.{Checked, first, ◌>>=◌, given, finite, num, within, ◌⊘◌}
+use Rattle.checked.specs.Checked.{Checked, ◌>>=◌, num, within, ◌⊘◌}
 use Rattle.vectors.specs.declared.Vec3.{Vec3}
 use Rattle.vectors.specs.Vectors.{within3, vec, ◌⊞◌, ◌⊟◌, ◌⊠◌, ◌⨯◌}
 use Rattle.directions.specs.Directions.{length_c, across_c}

@@ -1,7 +1,7 @@
 -- Which notes of a circle's points suffice, and that they are the points of a rim. Assumes nothing.
-use Rattle.std.specs.Prelude.{ℕ, ◌≡◌, refl, Float}
+use Rattle.std.specs.Prelude.{◌≡◌, refl, Float}
 use Rattle.std.proofs.Common.{sym, ◌∙◌}
-use Rattle.checked.specs.Checked.{Checked, first, nine}
+use Rattle.checked.specs.Checked.{first, nine}
 use Rattle.checked.specs.Laws.{rules as checked_rules}
 use Rattle.vectors.specs.declared.Vec3.{Vec3}
 use Rattle.vectors.specs.Vectors.{nines, minus_c, cross_c}

@@ -1,8 +1,8 @@
 -- Where no refusal is met, every point that widens a box is finite. Assumes nothing.
-use Rattle.std.specs.Prelude.{ℕ, ◌≡◌, Bool, true, false, cond, List, [], ◌∷◌, ◌++◌, T, Float}
+use Rattle.std.specs.Prelude.{◌≡◌, Bool, true, false, cond, List, [], ◌∷◌, ◌++◌, T, Float}
 use Rattle.std.proofs.Common.{sym, ◌∙◌, subst, arith}
 use Rattle.std.specs.Float.Ieee.{lt, neg}
-use Rattle.checked.specs.Checked.{Checked, first, given}
+use Rattle.checked.specs.Checked.{Checked, given}
 use Rattle.checked.specs.Laws.{ok, first_none}
 use Rattle.checked.specs.Numbers.{zero, one}
 use Rattle.vectors.specs.declared.Vec3.{Vec3}

@@ -1,6 +1,6 @@
 -- How far a point is turned about an axis: counterclockwise about `axis`, around `center`.
 use Rattle.std.specs.Prelude.{Bool, ◌&&◌, Float}
-use Rattle.checked.specs.Checked.{Checked, first, ◌>>=◌, given, within}
+use Rattle.checked.specs.Checked.{Checked, ◌>>=◌, within}
 use Rattle.vectors.specs.declared.Vec3.{Vec3}
 use Rattle.vectors.specs.Vectors.{within3, vec, ◌⊟◌, ◌⊡◌, ◌⨯◌}
 use Rattle.profile_arcs.specs.Angles.{atan2_c, ahead_c}

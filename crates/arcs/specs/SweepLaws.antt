@@ -1,7 +1,7 @@
 -- Which notes of a sweep suffice, and what is finite where it meets no refusal. Assumes nothing.
-use Rattle.std.specs.Prelude.{ℕ, ◌≡◌, refl, Bool, ◌&&◌, T, Float}
+use Rattle.std.specs.Prelude.{◌≡◌, Bool, ◌&&◌, T, Float}
 use Rattle.std.specs.Float.Ieee.Fits.{and_l, and_r}
-use Rattle.checked.specs.Checked.{Checked, first, nine, is_finite}
+use Rattle.checked.specs.Checked.{first, nine, is_finite}
 use Rattle.checked.specs.Laws.{ok, nine_ok, ok_and, rules as checked_rules}
 use Rattle.vectors.specs.declared.Vec3.{Vec3}
 use Rattle.vectors.specs.Vectors.{is_finite3, minus_c, cross_c, dot_c}

@@ -1,6 +1,6 @@
 -- The records of an edge file. A record is a tag byte, a length of two bytes, low byte first, and
 -- as many bytes as the length says.
-use Rattle.std.specs.Prelude.{ℕ, ◌+◌, ◌*◌, cond, ◌&&◌, List, [], ◌∷◌, ltb, eqb, Float, length, take, drop}
+use Rattle.std.specs.Prelude.{ℕ, ◌+◌, ◌*◌, cond, List, [], ◌∷◌, ltb, eqb, Float, length, take, drop}
 use Rattle.checked.specs.Patterns.{of_pattern}
 use Rattle.vectors.specs.declared.Vec3.{Vec3}
 use Rattle.vectors.specs.Vectors.{space}

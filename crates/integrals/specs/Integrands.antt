@@ -2,7 +2,7 @@
 -- x = origin + r(θ)·ρ(s) + axis·s, with ρ(s) = radius + slope·s, and n dA = ρ(s)·(r(θ) −
 -- slope·axis) dθ ds.
 use Rattle.std.specs.Prelude.{Float}
-use Rattle.checked.specs.Checked.{Checked, first, ◌>>=◌, given, num, ◌⊕◌, ◌⊖◌, ◌⊗◌, ◌⊘◌}
+use Rattle.checked.specs.Checked.{Checked, ◌>>=◌, given, num, ◌⊕◌, ◌⊖◌, ◌⊗◌, ◌⊘◌}
 use Rattle.checked.specs.Numbers.{zero, half, one, two, four, six}
 use Rattle.vectors.specs.declared.Vec3.{Vec3}
 use Rattle.vectors.specs.Vectors.{vec, ◌⊞◌, ◌⊟◌, ◌⊠◌, ◌⊡◌}

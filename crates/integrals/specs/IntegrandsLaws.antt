@@ -9,7 +9,7 @@ use Rattle.std.specs.Float.Ieee.{add, mul}
 use Rattle.std.specs.Float.Ieee.Fits.{and_i}
 use Rattle.checked.specs.Checked.{first, nine, is_finite}
 use Rattle.checked.specs.Laws.{first_assoc, zero_first, first_zero, ok, nine_ok, ok_and, absorb, holds, add_left, add_right, sub_right, mul_left, mul_right, rules as checked_rules}
-use Rattle.checked.specs.Numbers.{half, four, zero as nought, one}
+use Rattle.checked.specs.Numbers.{half, four, zero as nought}
 use Rattle.rounding.specs.Laws.{rounded}
 use Rattle.vectors.specs.declared.Vec3.{Vec3}
 use Rattle.vectors.specs.Vectors.{is_finite3, nines}
@@ -20,7 +20,7 @@ use Rattle.cones.specs.declared.Cone.{Cone}
 use Rattle.cones.specs.Frames.{frame_c}
 use Rattle.integrals.specs.declared.SurfaceIntegrals.{SurfaceIntegrals}
 use Rattle.integrals.specs.Sums.{finite_surface, surface_nine}
-use Rattle.integrals.specs.Laws.{Finite, sums_ok, area_first, the_volume, the_moment, the_area, the_vector, sums_of}
+use Rattle.integrals.specs.Laws.{sums_ok, area_first, the_volume, the_moment, the_area, the_vector, sums_of}
 use Rattle.integrals.specs.declared.integrands.Revolved.{Revolved}
 use Rattle.integrals.specs.declared.integrands.RadialNormal.{RadialNormal}
 use Rattle.integrals.specs.declared.integrands.PathPoint.{PathPoint}

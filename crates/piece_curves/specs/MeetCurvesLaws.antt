@@ -9,7 +9,6 @@ use Rattle.profile_arcs.specs.Angles.{atan2_c}
 use Rattle.rounding.specs.Laws.{rounded}
 use Rattle.vectors.specs.declared.Vec3.{Vec3}
 use Rattle.vectors.specs.Vectors.{plus_c, times_c}
-use Rattle.vectors.specs.Laws.{rules as vectors_rules}
 use Rattle.meets.specs.declared.quadratic.Intersection.{Intersection}
 use Rattle.meets.specs.Quadratic.{intersection_c}
 use Rattle.meets.specs.declared.generatrix.FirstDerivatives.{FirstDerivatives}

@@ -1,8 +1,7 @@
 -- What a piece of a development follows, ready to be followed.
 use Rattle.std.specs.Prelude.{Float}
-use Rattle.checked.specs.Checked.{Checked, first, ◌>>=◌, given}
+use Rattle.checked.specs.Checked.{Checked, ◌>>=◌, given}
 use Rattle.vectors.specs.declared.Vec2.{Vec2}
-use Rattle.waves.specs.declared.Wave.{Wave}
 use Rattle.meets.specs.declared.Meet.{Meet}
 use Rattle.meets.specs.Meets.{pipe_c}
 use Rattle.traces.specs.declared.Trace.{Trace}

@@ -1,7 +1,7 @@
 -- `Rolled::at`: the point at t of a piece, from 0 at its first end to 1 at its last, and its
 -- derivative in t.
 use Rattle.std.specs.Prelude.{Float}
-use Rattle.checked.specs.Checked.{Checked, first, ◌>>=◌, given, finite, num, minus, ◌⊕◌, ◌⊖◌, ◌⊗◌}
+use Rattle.checked.specs.Checked.{Checked, ◌>>=◌, given, num, minus, ◌⊕◌, ◌⊖◌, ◌⊗◌}
 use Rattle.libm.specs.Sincos.{sincos_c}
 use Rattle.vectors.specs.declared.Vec2.{Vec2}
 use Rattle.vectors.specs.Vectors.{plane}

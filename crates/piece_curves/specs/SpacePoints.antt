@@ -1,7 +1,7 @@
 -- Where a piece of a development is in space at t, at a distance from the axis. Of `Rolled::at` only
 -- the point is read: the derivative does not count.
 use Rattle.std.specs.Prelude.{Float}
-use Rattle.checked.specs.Checked.{Checked, first, ◌>>=◌, given, num, ◌⊕◌, ◌⊖◌, ◌⊗◌}
+use Rattle.checked.specs.Checked.{Checked, ◌>>=◌, given, num, ◌⊕◌, ◌⊖◌, ◌⊗◌}
 use Rattle.vectors.specs.declared.Vec2.{Vec2}
 use Rattle.vectors.specs.declared.Vec3.{Vec3}
 use Rattle.vectors.specs.Vectors.{plane}

@@ -1,4 +1,3 @@
-use borrow.Author.Rules.{rules}
 use Rattle.edge_records.specs.Records.{edge_of}
 use Rattle.edge_records.proofs.edge_of.Goals as goal
 

@@ -2,7 +2,6 @@
 use mathlib.Core.Path.{◌∙◌, sym, ap}
 use Rattle.edge_records.specs.Records.{head_of, size_of_kind}
 use Rattle.edge_records.proofs.Heads.{length_is, right_length, other_length}
-use borrow.Author.Rules.{rules}
 use Rattle.edge_records.proofs.head_of.Goals as goal
 
 pub returns-then-length-size : goal.returns-then-length-size

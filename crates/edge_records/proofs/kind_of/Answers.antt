@@ -2,7 +2,6 @@
 use mathlib.Core.Path.{◌∙◌, ap}
 use native.Mathlib.Omega.{arith}
 use Rattle.edge_records.proofs.Heads.{short_head, short_body, whole_body}
-use borrow.Author.Rules.{rules}
 use Rattle.edge_records.specs.Records.{size_of_kind}
 use Rattle.edge_records.proofs.kind_of.Goals as goal
 

@@ -3,7 +3,6 @@ use mathlib.Core.Path.{◌∙◌, ap}
 use Rattle.checked.specs.Patterns.{of_pattern}
 use Rattle.edge_records.specs.Records.{low_first, number_at}
 use Rattle.edge_records.proofs.Heads.{eight}
-use borrow.Author.Rules.{rules}
 use Rattle.edge_records.proofs.number_at.Goals as goal
 
 pub returns : goal.returns

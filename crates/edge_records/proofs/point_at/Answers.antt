@@ -1,4 +1,3 @@
-use borrow.Author.Rules.{rules}
 use Rattle.edge_records.specs.Records.{point_at}
 use Rattle.edge_records.proofs.point_at.Goals as goal
 

@@ -6,7 +6,6 @@ use Rattle.edge_records.specs.declared.Kind.TheVariants as kind
 use Rattle.edge_records.specs.declared.Record.TheVariants as first
 use Rattle.edge_records.specs.Laws.{kind_long}
 use Rattle.edge_records.proofs.Heads.{after_head}
-use borrow.Author.Rules.{rules}
 use Rattle.edge_records.specs.Records.{edge_of, of_kind, record_of}
 use Rattle.edge_records.proofs.record_of.Goals as goal
 

@@ -1,6 +1,5 @@
 -- `edge_records::size_of` meets its contract. Assumes nothing.
 use mathlib.Core.Path.{◌∙◌, ap}
-use borrow.Author.Rules.{rules}
 use Rattle.edge_records.specs.Records.{size_of_kind, size_of}
 use Rattle.edge_records.proofs.size_of.Goals as goal
 

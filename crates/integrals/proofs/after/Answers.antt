@@ -1,4 +1,3 @@
-use borrow.Author.Rules.{rules}
 use Rattle.integrals.proofs.after.Goals as goal
 
 pub returns-in-Sums : goal.returns-in-Sums

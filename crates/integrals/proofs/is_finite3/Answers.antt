@@ -1,5 +1,4 @@
 use Rattle.vectors.specs.Vectors.{is_finite3}
-use borrow.Author.Rules.{rules}
 use Rattle.integrals.proofs.is_finite3.Goals as goal
 
 pub returns : goal.returns

@@ -1,4 +1,3 @@
-use borrow.Author.Rules.{rules}
 use borrow.Author.Tests.{eq-eqb, ne_eqb}
 use Rattle.integrals.specs.Gauss.{lies}
 use Rattle.integrals.proofs.lies.Goals as goal

@@ -1,4 +1,3 @@
-use borrow.Author.Rules.{rules}
 use Rattle.checked.specs.Laws.{first_assoc}
 use Rattle.integrals.specs.Gauss.{lies_nine}
 use Rattle.integrals.proofs.lies_noted.Goals as goal

@@ -1,4 +1,3 @@
-use borrow.Author.Rules.{rules}
 use Rattle.piece_curves.specs.PieceCurves.{meet_kind_c}
 use Rattle.checked.specs.Laws.{rules as checked_rules}
 use Rattle.piece_curves.proofs.meet_way.Goals as goal

@@ -1,4 +1,3 @@
-use borrow.Author.Rules.{rules}
 use Rattle.piece_curves.specs.PieceCurves.{traced_c}
 use Rattle.piece_curves.proofs.traced.Goals as goal
 

@@ -1,4 +1,3 @@
-use borrow.Author.Rules.{rules}
 use Rattle.piece_curves.specs.PieceCurves.{untraced}
 use Rattle.piece_curves.proofs.untraced.Goals as goal
 

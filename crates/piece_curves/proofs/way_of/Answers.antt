@@ -1,4 +1,3 @@
-use borrow.Author.Rules.{rules}
 use Rattle.piece_curves.specs.PieceCurves.{kind_c}
 use Rattle.piece_curves.proofs.way_of.Goals as goal
 

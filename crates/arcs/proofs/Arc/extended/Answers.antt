@@ -1,4 +1,3 @@
-use borrow.Author.Rules.{rules}
 use Rattle.arcs.specs.Entries.{extend_due}
 use Rattle.checked.specs.Laws.{rules as checked_rules}
 use Rattle.boxes.proofs.Laws.{call_is}

@@ -1,4 +1,3 @@
-use borrow.Author.Rules.{rules}
 use Rattle.arcs.specs.Chords.{chord_within}
 use Rattle.arcs.proofs.chords.chord_within.Goals as goal
 

@@ -1,4 +1,3 @@
-use borrow.Author.Rules.{rules}
 use Rattle.arcs.specs.Chords.{cut_c}
 use Rattle.checked.specs.Laws.{first_assoc}
 use Rattle.arcs.specs.ChordsLaws.{cut_refusal}

@@ -1,4 +1,3 @@
-use borrow.Author.Rules.{rules}
 use Rattle.checked.specs.Laws.{first_assoc}
 use Rattle.boxes.proofs.Laws.{rules as boxes_rules}
 use Rattle.arcs.specs.ExtremesLaws.{points_refusal, points_value}

@@ -1,4 +1,3 @@
-use borrow.Author.Rules.{rules}
 use Rattle.arcs.specs.Extremes.{side_c}
 use Rattle.arcs.proofs.extremes.side.Goals as goal
 

@@ -1,4 +1,3 @@
-use borrow.Author.Rules.{rules}
 use Rattle.boxes.proofs.Laws.{rules as boxes_rules}
 use Rattle.arcs.proofs.extremes.widened_where.Goals as goal
 

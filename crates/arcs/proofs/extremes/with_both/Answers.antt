@@ -1,4 +1,3 @@
-use borrow.Author.Rules.{rules}
 use Rattle.arcs.specs.Extremes.{both_c}
 use Rattle.checked.specs.Laws.{first_assoc}
 use Rattle.boxes.proofs.Laws.{widened_append}

@@ -1,4 +1,3 @@
-use borrow.Author.Rules.{rules}
 use Rattle.arcs.specs.Extremes.{taken_c}
 use Rattle.checked.specs.Laws.{first_zero}
 use Rattle.arcs.proofs.extremes.with_candidate.Goals as goal

@@ -1,4 +1,3 @@
-use borrow.Author.Rules.{rules}
 use Rattle.arcs.specs.Extremes.{extremes_c}
 use Rattle.checked.specs.Laws.{first_assoc, first_zero}
 use Rattle.boxes.proofs.Laws.{widened_none}

@@ -1,4 +1,3 @@
-use borrow.Author.Rules.{rules}
 use Rattle.arcs.specs.Arcs.{reversed_c}
 use Rattle.checked.specs.Laws.{rules as checked_rules}
 use Rattle.vectors.specs.Laws.{rules as vectors_rules}

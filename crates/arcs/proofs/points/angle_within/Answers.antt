@@ -1,4 +1,3 @@
-use borrow.Author.Rules.{rules}
 use Rattle.arcs.specs.Points.{angle_within}
 use Rattle.arcs.proofs.points.angle_within.Goals as goal
 

@@ -1,4 +1,3 @@
-use borrow.Author.Rules.{rules}
 use Rattle.arcs.specs.Points.{at_c}
 use Rattle.arcs.specs.PointsLaws.{turned_refusal, turned_value}
 use Rattle.arcs.proofs.points.at.Goals as goal

@@ -1,4 +1,3 @@
-use borrow.Author.Rules.{rules}
 use Rattle.arcs.specs.Points.{radius_vector_c}
 use Rattle.checked.specs.Laws.{zero_first}
 use Rattle.arcs.specs.PointsLaws.{spoke_refusal}

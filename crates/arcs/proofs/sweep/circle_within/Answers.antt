@@ -1,4 +1,3 @@
-use borrow.Author.Rules.{rules}
 use Rattle.arcs.specs.Sweep.{circle_within}
 use Rattle.arcs.proofs.sweep.circle_within.Goals as goal
 

@@ -1,4 +1,3 @@
-use borrow.Author.Rules.{rules}
 use Rattle.arcs.specs.Sweep.{ends_within}
 use Rattle.arcs.proofs.sweep.ends_within.Goals as goal
 

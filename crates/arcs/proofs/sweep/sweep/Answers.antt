@@ -1,4 +1,3 @@
-use borrow.Author.Rules.{rules}
 use Rattle.arcs.specs.Sweep.{sweep_c}
 use Rattle.arcs.specs.SweepLaws.{sweep_refusal}
 use mathlib.Core.Path.{sym, ◌∙◌}

@@ -1,4 +1,3 @@
-use borrow.Author.Rules.{rules}
 use Rattle.arcs.specs.Sweep.{sweep_from_c}
 use Rattle.checked.specs.Laws.{first_assoc}
 use Rattle.arcs.specs.SweepLaws.{sweep_from_refusal}

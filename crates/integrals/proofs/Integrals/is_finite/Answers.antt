@@ -1,4 +1,3 @@
-use borrow.Author.Rules.{rules}
 use Rattle.integrals.specs.Sums.{finite_sums}
 use Rattle.integrals.proofs.Integrals.is_finite.Goals as goal
 

@@ -1,4 +1,3 @@
-use borrow.Author.Rules.{rules}
 use Rattle.integrals.specs.Sums.{finite_surface}
 use Rattle.integrals.proofs.SurfaceIntegrals.is_finite.Goals as goal
 

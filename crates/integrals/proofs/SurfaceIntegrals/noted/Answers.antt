@@ -1,4 +1,3 @@
-use borrow.Author.Rules.{rules}
 use Rattle.checked.specs.Laws.{first_assoc}
 use Rattle.integrals.specs.Laws.{sums_are}
 use Rattle.integrals.proofs.SurfaceIntegrals.noted.Goals as goal

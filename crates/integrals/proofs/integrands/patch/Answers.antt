@@ -1,4 +1,3 @@
-use borrow.Author.Rules.{rules}
 use Rattle.integrals.specs.Integrands.{patch_c}
 use Rattle.integrals.proofs.integrands.patch.Goals as goal
 

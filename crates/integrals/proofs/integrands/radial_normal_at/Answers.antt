@@ -1,4 +1,3 @@
-use borrow.Author.Rules.{rules}
 use Rattle.integrals.specs.Integrands.{radial_normal_c}
 use Rattle.integrals.proofs.integrands.radial_normal_at.Goals as goal
 

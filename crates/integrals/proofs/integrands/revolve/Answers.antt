@@ -1,4 +1,3 @@
-use borrow.Author.Rules.{rules}
 use Rattle.integrals.specs.Integrands.{revolved_c}
 use Rattle.checked.specs.Laws.{first_assoc}
 use Rattle.integrals.specs.IntegrandsLaws.{revolved_refusal}

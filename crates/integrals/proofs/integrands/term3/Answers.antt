@@ -1,4 +1,3 @@
-use borrow.Author.Rules.{rules}
 use Rattle.integrals.specs.Integrands.{term3_c}
 use Rattle.integrals.proofs.integrands.term3.Goals as goal
 

@@ -1,4 +1,3 @@
-use borrow.Author.Rules.{rules}
 use Rattle.integrals.specs.Integrands.{terms_c}
 use Rattle.integrals.proofs.integrands.terms.Goals as goal
 

@@ -1,4 +1,3 @@
-use borrow.Author.Rules.{rules}
 use Rattle.piece_curves.specs.MeetCurves.{angle_c}
 use Rattle.piece_curves.proofs.meet_curves.angle.Goals as goal
 

@@ -1,6 +1,5 @@
 use Rattle.piece_curves.specs.MeetCurves.{slope_u_c}
 use Rattle.checked.specs.Laws.{rules as checked_rules}
-use borrow.Author.Rules.{rules}
 use Rattle.piece_curves.proofs.meet_curves.motion.Goals as goal
 
 pub returns-in-Without : goal.returns-in-Without

@@ -1,5 +1,4 @@
 use mathlib.Core.Path.{sym, ◌∙◌}
-use borrow.Author.Rules.{rules}
 use Rattle.checked.specs.Laws.{first_assoc, zero_first}
 use Rattle.vectors.specs.Vectors.{plus_c, times_c}
 use Rattle.meets.specs.Generatrix.{along_generatrix_c, point_c}

@@ -1,4 +1,3 @@
-use borrow.Author.Rules.{rules}
 use Rattle.piece_curves.specs.MeetCurves.{near_c}
 use Rattle.piece_curves.proofs.meet_curves.near.Goals as goal
 

@@ -1,4 +1,3 @@
-use borrow.Author.Rules.{rules}
 use Rattle.piece_curves.specs.MeetCurvesLaws.{point_refusal, point_value}
 use mathlib.Core.Path.{sym, ◌∙◌}
 use Rattle.piece_curves.proofs.meet_curves.point.Goals as goal

@@ -1,4 +1,3 @@
-use borrow.Author.Rules.{rules}
 use Rattle.piece_curves.specs.MeetCurves.{rate_c}
 use Rattle.piece_curves.proofs.meet_curves.rate.Goals as goal
 

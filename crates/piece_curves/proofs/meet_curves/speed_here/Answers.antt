@@ -1,4 +1,3 @@
-use borrow.Author.Rules.{rules}
 use Rattle.meets.specs.Generatrix.{first_derivatives_c}
 use Rattle.checked.specs.Laws.{zero_first}
 use Rattle.meets.specs.GeneratrixLaws.{speed_refusal}

@@ -1,4 +1,3 @@
-use borrow.Author.Rules.{rules}
 use Rattle.piece_curves.specs.Points.{arc_point_c}
 use Rattle.checked.specs.Laws.{rules as checked_rules}
 use Rattle.piece_curves.proofs.points.arc_point.Goals as goal

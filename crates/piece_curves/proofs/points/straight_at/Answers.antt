@@ -1,4 +1,3 @@
-use borrow.Author.Rules.{rules}
 use Rattle.piece_curves.specs.Points.{straight_c}
 use Rattle.checked.specs.Laws.{first_assoc, zero_first}
 use Rattle.piece_curves.specs.PointsLaws.{straight_refusal}

@@ -1,4 +1,3 @@
-use borrow.Author.Rules.{rules}
 use Rattle.piece_curves.specs.Points.{wave_c}
 use Rattle.checked.specs.Laws.{rules as checked_rules}
 use Rattle.piece_curves.proofs.points.wave_at.Goals as goal

@@ -1,4 +1,3 @@
-use borrow.Author.Rules.{rules}
 use Rattle.piece_curves.specs.SpacePoints.{rolled_c}
 use Rattle.piece_curves.proofs.space_points.rolled_point.Goals as goal
 

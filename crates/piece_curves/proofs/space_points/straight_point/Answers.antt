@@ -1,5 +1,4 @@
 use mathlib.Core.Path.{refl}
-use borrow.Author.Rules.{rules}
 use Rattle.piece_curves.specs.SpacePoints.{straight_c}
 use Rattle.checked.specs.Laws.{rules as checked_rules}
 use Rattle.piece_curves.proofs.space_points.straight_point.Goals as goal

@@ -1,4 +1,3 @@
-use borrow.Author.Rules.{rules}
 use Rattle.piece_curves.specs.SpacePoints.{wave_c}
 use Rattle.checked.specs.Laws.{rules as checked_rules}
 use Rattle.piece_curves.proofs.space_points.wave_point.Goals as goal
