@@ -1,8 +1,5 @@
 -- `edge_cases::find` is safe and ends. Assumes nothing.
-use Prim.Native.Nat.{◌-◌, ◌≤◌}
-use native.Mathlib.Omega.{arith}
-use lib.ListN.{length}
-use borrow.Author.Rules.{rules}
+use Rattle.std.proofs.Common.{◌-◌, ◌≤◌, length}
 use Rattle.edge_cases.proofs.find.Given as goal
 
 abbrev pub invariant-loop-at : goal.invariant-loop-at

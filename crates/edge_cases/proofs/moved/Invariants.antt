@@ -1,8 +1,5 @@
 -- `edge_cases::moved` is safe and ends. Assumes nothing.
-use Prim.Native.Nat.{◌-◌, ◌≤◌}
-use native.Mathlib.Omega.{arith}
-use lib.ListN.{length}
-use borrow.Author.Rules.{rules}
+use Rattle.std.proofs.Common.{◌-◌, ◌≤◌}
 use Rattle.edge_cases.proofs.moved.Given as goal
 
 abbrev pub invariant-loop-i : goal.invariant-loop-i

@@ -1,10 +1,9 @@
 -- `edgebox::read_all` meets its contract. The loop's invariant: the reading has taken what came in.
 -- The measure is how many reads are left. Assumes nothing.
-use mathlib.Core.Path.{◌≡◌, refl, sym, ◌∙◌}
+use mathlib.Core.Path.{refl, sym, ◌∙◌}
 use native.Mathlib.Omega.{arith}
-use lib.ListN.{length}
 use borrow.Author.Rules.{rules}
-use Rattle.edgebox.proofs.Files.{Standing, stands_begun, stands_more, stands_last, stands_over}
+use Rattle.edgebox.proofs.Files.{stands_begun, stands_more, stands_last, stands_over}
 use Rattle.edgebox.proofs.read_all.Goals as goal
 
 pub loop-reads-init : goal.loop-reads-init

@@ -1,10 +1,8 @@
 -- `edgebox::read_all` meets its contract. The loop's invariant: the reading has taken what came in.
 -- The measure is how many reads are left. Assumes nothing.
-use mathlib.Core.Path.{◌≡◌, refl, sym, ◌∙◌}
-use native.Mathlib.Omega.{arith}
+use mathlib.Core.Path.{◌≡◌}
 use lib.ListN.{length}
-use borrow.Author.Rules.{rules}
-use Rattle.edgebox.proofs.Files.{Standing, stands_begun, stands_more, stands_last, stands_over}
+use Rattle.edgebox.proofs.Files.{Standing}
 use Rattle.edgebox.proofs.read_all.Given as goal
 
 abbrev pub invariant-loop-reads : goal.invariant-loop-reads

