@@ -12,7 +12,7 @@ use Rattle.meets.specs.declared.Meet.{Meet}
 use Rattle.traces.specs.declared.Trace.{Trace}
 use Rattle.traces.specs.declared.Trace.TheVariants as trace
 use Rattle.traces.specs.Traces.{Optional, some, none}
-use Rattle.c_arrays.specs.Records.{vec3_at, of_vec3, NONE}
+use Rattle.c_arrays.specs.Records.{vec3_at, NONE}
 
 -- ---- records from arrays, from place k on
 -- a, b, c

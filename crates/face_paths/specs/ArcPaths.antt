@@ -1,6 +1,6 @@
 -- An arc as a path on a surface of revolution.
 use Rattle.std.specs.Prelude.{Float}
-use Rattle.checked.specs.Checked.{Checked, first, ◌>>=◌, given, num, ◌⊕◌, ◌⊗◌, ◌⊘◌}
+use Rattle.checked.specs.Checked.{Checked, ◌>>=◌, given, num, ◌⊕◌, ◌⊗◌, ◌⊘◌}
 use Rattle.checked.specs.Numbers.{one, quarter_pi}
 use Rattle.float_bits.specs.FloatBits.{fabs}
 use Rattle.vectors.specs.declared.Vec3.{Vec3}

@@ -1,7 +1,7 @@
 -- A piece of a development as a path on a cylinder: θ turns with u, the other way where the
 -- development's axis is against the cylinder's.
 use Rattle.std.specs.Prelude.{Float}
-use Rattle.checked.specs.Checked.{Checked, first, ◌>>=◌, given, num, ◌⊕◌, ◌⊗◌, ◌⊘◌}
+use Rattle.checked.specs.Checked.{Checked, ◌>>=◌, given, num, ◌⊕◌, ◌⊗◌, ◌⊘◌}
 use Rattle.vectors.specs.declared.Vec3.{Vec3}
 use Rattle.vectors.specs.Vectors.{vec, ◌⊟◌, ◌⊡◌}
 use Rattle.profile_arcs.specs.Angles.{atan2_c}

@@ -1,7 +1,7 @@
 -- What the integral along a path reads of `Rolled::at`: the point (u, v) at t, and how fast u runs.
 -- How fast v runs is dropped unread, so it does not count.
 use Rattle.std.specs.Prelude.{Float}
-use Rattle.checked.specs.Checked.{Checked, first, ◌>>=◌, given, num, minus, ◌⊕◌, ◌⊖◌, ◌⊗◌}
+use Rattle.checked.specs.Checked.{Checked, ◌>>=◌, given, num, minus, ◌⊕◌, ◌⊖◌, ◌⊗◌}
 use Rattle.vectors.specs.declared.Vec2.{Vec2}
 use Rattle.profile_arcs.specs.declared.ProfileArc.{ProfileArc}
 use Rattle.waves.specs.declared.Wave.{Wave}

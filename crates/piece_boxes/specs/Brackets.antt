@@ -1,7 +1,7 @@
 -- Where a piece that follows a meet turns between two samples (`Rolled::meet_box`).
 use Rattle.std.specs.Prelude.{ℕ, ◌+◌, Bool, cond, not, Float}
 use Rattle.std.specs.Float.Ieee.{lt, le}
-use Rattle.checked.specs.Checked.{Checked, first, ◌>>=◌, given, finite, num, ◌⊕◌, ◌⊗◌, ◌⊘◌}
+use Rattle.checked.specs.Checked.{Checked, ◌>>=◌, given, num, ◌⊕◌, ◌⊗◌, ◌⊘◌}
 use Rattle.checked.specs.Numbers.{literal, float, zero, half}
 use Rattle.order.specs.Least.{least, greatest}
 use Rattle.vectors.specs.declared.Vec2.{Vec2}

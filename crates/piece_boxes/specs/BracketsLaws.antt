@@ -2,7 +2,7 @@
 use Rattle.std.specs.Prelude.{◌≡◌, refl, Bool, true, false, cond, Float}
 use Rattle.std.specs.Float.{binary64}
 use Rattle.std.specs.Float.Ieee.{add, mul}
-use Rattle.checked.specs.Checked.{Checked, first, nine}
+use Rattle.checked.specs.Checked.{first, nine}
 use Rattle.checked.specs.Laws.{rules as checked_rules}
 use Rattle.checked.specs.Numbers.{half}
 use Rattle.piece_curves.specs.declared.meet_curves.MeetCurve.{MeetCurve}

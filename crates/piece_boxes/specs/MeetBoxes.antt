@@ -1,7 +1,7 @@
 -- `Rolled::meet_box`: all samples first, then the windows between them.
 use Rattle.std.specs.Prelude.{ℕ, ◌+◌, Bool, true, false, cond, ◌||◌, eqb}
 use Rattle.std.specs.Float.{inf}
-use Rattle.checked.specs.Checked.{Checked, first, ◌>>=◌, given}
+use Rattle.checked.specs.Checked.{Checked, ◌>>=◌, given}
 use Rattle.vectors.specs.declared.Vec2.{Vec2}
 use Rattle.vectors.specs.Vectors.{plane}
 use Rattle.checked.specs.Loops.{fold_c}

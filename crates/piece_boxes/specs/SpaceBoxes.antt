@@ -1,7 +1,7 @@
 -- The points by which a piece of a development widens a box: those of the two arcs about the axis
 -- at the two ends of its box along v.
 use Rattle.std.specs.Prelude.{List, Float}
-use Rattle.checked.specs.Checked.{Checked, first, ◌>>=◌, given, num}
+use Rattle.checked.specs.Checked.{Checked, ◌>>=◌, num}
 use Rattle.vectors.specs.declared.Vec3.{Vec3}
 use Rattle.vectors.specs.Vectors.{plane, vec, ◌⊞◌, ◌⊠◌}
 use Rattle.boxes.specs.Boxes.{◌⧺◌}

@@ -1,6 +1,6 @@
 -- Where no refusal is met, every point by which a piece widens a box is finite; and which notes
 -- suffice. Assumes nothing.
-use Rattle.std.specs.Prelude.{◌≡◌, List, Float}
+use Rattle.std.specs.Prelude.{◌≡◌, Float}
 use Rattle.std.proofs.Math.Path.{refl}
 use Rattle.checked.specs.Checked.{Checked, first}
 use Rattle.checked.specs.Laws.{rules as checked_rules}

@@ -1,7 +1,7 @@
 -- Into how many pieces or chords a piece of a development is cut: `Rolled::quadrature_pieces`,
 -- `Rolled::chords`, `Rolled::polyline`.
 use Rattle.std.specs.Prelude.{ℕ, Float}
-use Rattle.checked.specs.Checked.{Checked, first, ◌>>=◌, given, finite, num, ◌⊕◌, ◌⊖◌, ◌⊗◌, ◌⊘◌}
+use Rattle.checked.specs.Checked.{Checked, ◌>>=◌, given, num, ◌⊕◌, ◌⊖◌, ◌⊗◌, ◌⊘◌}
 use Rattle.checked.specs.Numbers.{literal, float, zero, one, two, tau, quarter_pi}
 use Rattle.float_bits.specs.FloatBits.{fabs}
 use Rattle.rounding.specs.Computations.{sqrt_c}

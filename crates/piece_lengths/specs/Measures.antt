@@ -1,6 +1,6 @@
 -- `Rolled::measure`: a piece's radius, how far it turns, and its length.
 use Rattle.std.specs.Prelude.{ℕ, ◌+◌, Float}
-use Rattle.checked.specs.Checked.{Checked, first, ◌>>=◌, given, finite, num, ◌⊕◌, ◌⊖◌, ◌⊗◌, ◌⊘◌}
+use Rattle.checked.specs.Checked.{Checked, ◌>>=◌, given, finite, num, ◌⊕◌, ◌⊖◌, ◌⊗◌, ◌⊘◌}
 use Rattle.checked.specs.Numbers.{literal, float, zero}
 use Rattle.float_bits.specs.FloatBits.{fabs}
 use Rattle.libm.specs.Roots.{hypot}

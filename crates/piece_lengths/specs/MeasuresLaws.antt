@@ -3,7 +3,7 @@ use Rattle.std.specs.Prelude.{ℕ, ◌≡◌, refl, Float}
 use Rattle.std.proofs.Common.{sym, ◌∙◌, ap, subst}
 use Rattle.std.specs.Float.{binary64}
 use Rattle.std.specs.Float.Ieee.{add, sub, mul, div}
-use Rattle.checked.specs.Checked.{Checked, first, nine}
+use Rattle.checked.specs.Checked.{first, nine}
 use Rattle.checked.specs.Laws.{rules as checked_rules}
 use Rattle.libm.specs.Atan2.{atan2}
 use Rattle.vectors.specs.declared.Vec2.{Vec2}
@@ -11,7 +11,6 @@ use Rattle.vectors.specs.Vectors.{plane}
 use Rattle.waves.specs.declared.Wave.{Wave}
 use Rattle.checked.specs.Numbers.{float}
 use Rattle.piece_curves.specs.declared.meet_curves.MeetCurve.{MeetCurve}
-use Rattle.piece_curves.specs.declared.meet_curves.Place.{Place}
 use Rattle.piece_curves.specs.MeetCurves as courses
 use Rattle.piece_curves.specs.MeetCurves.{placed_c}
 use Rattle.piece_curves.specs.MeetCurvesLaws.{point_refusal, point_value}

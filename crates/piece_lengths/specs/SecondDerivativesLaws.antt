@@ -2,7 +2,7 @@
 use Rattle.std.specs.Prelude.{◌≡◌, Float}
 use Rattle.std.specs.Float.{binary64}
 use Rattle.std.specs.Float.Ieee.{add, sub, mul}
-use Rattle.checked.specs.Checked.{Checked, first, nine}
+use Rattle.checked.specs.Checked.{first, nine}
 use Rattle.checked.specs.Laws.{swap, rules as checked_rules}
 use Rattle.checked.specs.Numbers.{two}
 use Rattle.vectors.specs.declared.Vec2.{Vec2}

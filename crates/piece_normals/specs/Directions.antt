@@ -1,7 +1,7 @@
 -- `Rolled::across`: the direction of a hole's edge at a point of the development, the way it runs.
 use Rattle.std.specs.Prelude.{cond, Float}
 use Rattle.std.specs.Float.Ieee.{le, neg}
-use Rattle.checked.specs.Checked.{Checked, first, ◌>>=◌, given, finite, num, ◌⊖◌, ◌⊗◌, ◌⊘◌}
+use Rattle.checked.specs.Checked.{Checked, ◌>>=◌, given, num, ◌⊖◌, ◌⊗◌, ◌⊘◌}
 use Rattle.checked.specs.Numbers.{zero, half}
 use Rattle.libm.specs.Sincos.{sincos_c}
 use Rattle.directions.specs.Directions.{across_c}

@@ -2,7 +2,7 @@
 use Rattle.std.specs.Prelude.{◌≡◌, Float}
 use Rattle.std.specs.Float.{binary64}
 use Rattle.std.specs.Float.Ieee.{mul, div}
-use Rattle.checked.specs.Checked.{Checked, first, nine}
+use Rattle.checked.specs.Checked.{first, nine}
 use Rattle.checked.specs.Laws.{rules as checked_rules}
 use Rattle.libm.specs.Sincos.{sincos_c, sines_or_zeros}
 use Rattle.directions.specs.Laws.{rules as directions_rules}

@@ -1,6 +1,6 @@
 -- Which notes suffice of a normal. Assumes nothing.
 use Rattle.std.specs.Prelude.{ℕ, zero, suc, ◌≡◌, refl, Float}
-use Rattle.checked.specs.Checked.{Checked, first}
+use Rattle.checked.specs.Checked.{first}
 use Rattle.checked.specs.Laws.{rules as checked_rules}
 use Rattle.vectors.specs.declared.Vec2.{Vec2}
 use Rattle.vectors.specs.declared.Vec3.{Vec3}

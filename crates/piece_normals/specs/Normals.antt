@@ -1,6 +1,6 @@
 -- `Rolled::normal`: the unit normal of the wall over a piece, left of the piece's direction.
-use Rattle.std.specs.Prelude.{Bool, cond, Float}
-use Rattle.checked.specs.Checked.{Checked, first, ◌>>=◌, given, finite, num, ◌⊖◌, ◌⊗◌, ◌⊘◌}
+use Rattle.std.specs.Prelude.{cond, Float}
+use Rattle.checked.specs.Checked.{Checked, ◌>>=◌, given, num, ◌⊖◌, ◌⊗◌, ◌⊘◌}
 use Rattle.directions.specs.Directions.{unit_c}
 use Rattle.vectors.specs.declared.Vec2.{Vec2}
 use Rattle.vectors.specs.declared.Vec3.{Vec3}

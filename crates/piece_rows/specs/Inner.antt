@@ -1,6 +1,6 @@
 -- Points of a piece of a development for drawing, both ends excluded, at a distance from the axis.
 use Rattle.std.specs.Prelude.{ℕ, ◌-◌, List}
-use Rattle.checked.specs.Checked.{Checked, first, ◌>>=◌, given, num, ◌⊘◌, Due, answered}
+use Rattle.checked.specs.Checked.{Checked, ◌>>=◌, num, ◌⊘◌, Due, answered}
 use Rattle.checked.specs.Numbers.{float}
 use Rattle.vectors.specs.declared.Vec3.{Vec3}
 use Rattle.rows.specs.Rows.{up_to, fits}

@@ -2,7 +2,7 @@
 -- loop over them. Assumes nothing.
 use Rattle.std.specs.Prelude.{ℕ, zero, suc, ◌+◌, ◌-◌, ◌*◌, ◌≤◌, ◌≡◌, refl, Bool, true, false, cond, List, ◌++◌, length, drop, Float}
 use Rattle.std.proofs.Common.{sym, ap, length-set}
-use Rattle.checked.specs.Checked.{Checked, first, settled}
+use Rattle.checked.specs.Checked.{Checked, settled}
 use Rattle.checked.specs.Laws.{zero_first}
 use Rattle.vectors.specs.declared.Vec3.{Vec3}
 use Rattle.piece_curves.specs.declared.space_points.Rolling.{Rolling}

@@ -1,4 +1,3 @@
-use borrow.Author.Rules.{rules}
 use Rattle.checked.specs.Laws.{settled_some, settled_none}
 use Rattle.libm.specs.declared.sincos.Sines.{Sines}
 use Rattle.c_arrays.specs.Records.{after, over}

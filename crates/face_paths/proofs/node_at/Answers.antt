@@ -1,4 +1,3 @@
-use borrow.Author.Rules.{rules}
 use Rattle.checked.specs.Laws.{first_assoc}
 use Rattle.integrals.specs.Along.{node_at_c}
 use Rattle.face_paths.proofs.node_at.Goals as goal

@@ -1,4 +1,3 @@
-use borrow.Author.Rules.{rules}
 use Rattle.face_paths.specs.Paths.{face_path_at}
 use Rattle.face_paths.proofs.place_at.Goals as goal
 

@@ -1,4 +1,3 @@
-use borrow.Author.Rules.{rules}
 use Rattle.checked.specs.Laws.{first_assoc, first_zero}
 use Rattle.face_paths.specs.ArcPaths.{arc_path_c}
 use Rattle.face_paths.specs.Paths.{face_path_at, with_arc_c}

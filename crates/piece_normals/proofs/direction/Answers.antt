@@ -1,4 +1,3 @@
-use borrow.Author.Rules.{rules}
 use Rattle.piece_normals.specs.Normals.{direction_c}
 use Rattle.piece_normals.proofs.direction.Goals as goal
 

@@ -1,4 +1,3 @@
-use borrow.Author.Rules.{rules}
 use Rattle.piece_normals.specs.Normals.{meet_c}
 use Rattle.piece_normals.proofs.meet_direction.Goals as goal
 

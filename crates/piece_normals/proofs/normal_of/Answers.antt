@@ -1,4 +1,3 @@
-use borrow.Author.Rules.{rules}
 use Rattle.developments.specs.Formulas.{along_c}
 use mathlib.Core.Path.{sym, ◌∙◌}
 use Rattle.piece_normals.specs.Laws.{normal_refusal}

@@ -1,4 +1,3 @@
-use borrow.Author.Rules.{rules}
 use Rattle.piece_normals.specs.Normals.{traced_c}
 use Rattle.piece_normals.proofs.traced.Goals as goal
 

@@ -1,4 +1,3 @@
-use borrow.Author.Rules.{rules}
 use Rattle.piece_normals.specs.Normals.{wave_c}
 use Rattle.checked.specs.Laws.{rules as checked_rules}
 use Rattle.piece_normals.proofs.wave_direction.Goals as goal

@@ -1,4 +1,3 @@
-use borrow.Author.Rules.{rules}
 use Rattle.piece_normals.specs.Normals.{without_arc_c}
 use Rattle.piece_normals.proofs.without_arc.Goals as goal
 

@@ -1,4 +1,3 @@
-use borrow.Author.Rules.{rules}
 use Rattle.piece_rows.specs.Inner.{inner_c}
 use Rattle.checked.specs.Laws.{rules as checked_rules}
 use Rattle.piece_rows.proofs.point_at.Goals as goal

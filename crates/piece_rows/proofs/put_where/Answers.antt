@@ -1,4 +1,3 @@
-use borrow.Author.Rules.{rules}
 use Rattle.piece_rows.proofs.put_where.Goals as goal
 
 pub returns-then-stored : goal.returns-then-stored

@@ -1,9 +1,6 @@
 use mathlib.Core.Path.{◌≡◌, refl, ◌∙◌, ap}
-use Prim.Native.Nat.{ℕ, ◌≤◌, ◌-◌}
+use Prim.Native.Nat.{ℕ}
 use native.Mathlib.Omega.{arith}
-use lib.ListN.{length}
-use borrow.Author.Rules.{rules}
-use Rattle.checked.specs.Checked.{Checked}
 use Rattle.rows.specs.Rows.{up_to}
 use Rattle.rows.specs.Laws.{up_to_refusal}
 use Rattle.piece_rows.specs.Inner.{inner_c}

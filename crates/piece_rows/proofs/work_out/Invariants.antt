@@ -1,13 +1,9 @@
-use mathlib.Core.Path.{◌≡◌, refl, ◌∙◌, ap}
-use Prim.Native.Nat.{ℕ, ◌≤◌, ◌-◌}
-use native.Mathlib.Omega.{arith}
+use mathlib.Core.Path.{◌≡◌}
+use Prim.Native.Nat.{◌≤◌, ◌-◌}
 use lib.ListN.{length}
-use borrow.Author.Rules.{rules}
-use Rattle.checked.specs.Checked.{Checked}
 use Rattle.rows.specs.Rows.{up_to}
-use Rattle.rows.specs.Laws.{up_to_refusal}
 use Rattle.piece_rows.specs.Inner.{inner_c}
-use Rattle.piece_rows.specs.Laws.{held, held_none, held_more, held_length}
+use Rattle.piece_rows.specs.Laws.{held}
 use Rattle.piece_rows.proofs.work_out.Given as goal
 
 -- `i` points are noted, and stored where they are to be; the rest of the buffer is as it was

@@ -1,4 +1,3 @@
-use borrow.Author.Rules.{rules}
 use lib.ListN.{length}
 use Rattle.piece_rows.specs.Inner.{inner_c}
 use Rattle.rows.specs.Rows.{point}

@@ -1,5 +1,4 @@
 use mathlib.Core.Path.{◌≡◌, sym, ◌∙◌, ap}
-use borrow.Author.Rules.{rules}
 use lib.ListN.{length}
 use Rattle.checked.specs.Answers.{number_of}
 use Rattle.rows.specs.Rows.{point}

@@ -1,6 +1,5 @@
-use mathlib.Core.Path.{◌≡◌, sym, ◌∙◌}
-use borrow.Author.Rules.{rules}
-use Rattle.checked.specs.Checked.{Checked, first}
+use mathlib.Core.Path.{◌≡◌, ◌∙◌}
+use Rattle.checked.specs.Checked.{first}
 use Rattle.checked.specs.Laws.{zero_first}
 use Rattle.rows.specs.Rows.{up_to}
 use Rattle.piece_rows.specs.Inner.{inner_c}

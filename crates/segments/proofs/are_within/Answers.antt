@@ -1,4 +1,3 @@
-use borrow.Author.Rules.{rules}
 use Rattle.segments.specs.Entries.{segment_within}
 use Rattle.segments.proofs.are_within.Goals as goal
 

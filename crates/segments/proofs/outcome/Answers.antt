@@ -1,4 +1,3 @@
-use borrow.Author.Rules.{rules}
 use Rattle.segments.specs.Entries.{segment_due}
 use Rattle.segments.proofs.outcome.Goals as goal
 

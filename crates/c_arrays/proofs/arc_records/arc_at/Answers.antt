@@ -1,4 +1,3 @@
-use borrow.Author.Rules.{rules}
 use Rattle.c_arrays.proofs.arc_records.arc_at.Goals as goal
 
 pub returns : goal.returns

@@ -1,5 +1,4 @@
 use Rattle.c_arrays.specs.Records.{after}
-use borrow.Author.Rules.{rules}
 use Rattle.c_arrays.proofs.arc_records.store_arc.Goals as goal
 
 pub returns-in-Value : goal.returns-in-Value

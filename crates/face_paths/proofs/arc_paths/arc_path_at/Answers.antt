@@ -1,5 +1,4 @@
 use mathlib.Core.Path.{refl}
-use borrow.Author.Rules.{rules}
 use Rattle.checked.specs.Laws.{rules as checked_rules}
 use Rattle.face_paths.specs.ArcPaths.{arc_path_at}
 use Rattle.face_paths.proofs.arc_paths.arc_path_at.Goals as goal

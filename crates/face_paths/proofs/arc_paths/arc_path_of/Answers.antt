@@ -1,4 +1,3 @@
-use borrow.Author.Rules.{rules}
 use Rattle.face_paths.specs.ArcPaths.{arc_path_of_c}
 use Rattle.checked.specs.Laws.{rules as checked_rules}
 use Rattle.vectors.specs.Laws.{rules as vectors_rules}

@@ -1,4 +1,3 @@
-use borrow.Author.Rules.{rules}
 use Rattle.checked.specs.Laws.{rules as checked_rules}
 use Rattle.face_paths.specs.PiecePaths.{piece_path_at}
 use Rattle.face_paths.proofs.piece_paths.piece_path_at.Goals as goal

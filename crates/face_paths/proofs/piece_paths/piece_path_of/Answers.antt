@@ -1,4 +1,3 @@
-use borrow.Author.Rules.{rules}
 use Rattle.checked.specs.Laws.{rules as checked_rules}
 use Rattle.vectors.specs.Laws.{rules as vectors_rules}
 use Rattle.profile_arcs.specs.AnglesLaws.{rules as angles_rules}

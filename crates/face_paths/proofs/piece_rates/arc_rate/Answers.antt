@@ -1,4 +1,3 @@
-use borrow.Author.Rules.{rules}
 use Rattle.face_paths.specs.PieceRates.{arc_c}
 use Rattle.checked.specs.Laws.{rules as checked_rules}
 use Rattle.face_paths.proofs.piece_rates.arc_rate.Goals as goal

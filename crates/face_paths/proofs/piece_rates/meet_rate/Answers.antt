@@ -1,4 +1,3 @@
-use borrow.Author.Rules.{rules}
 use Rattle.face_paths.specs.PieceRates.{meet_c}
 use Rattle.checked.specs.Laws.{first_zero}
 use Rattle.piece_curves.specs.MeetCurvesLaws.{point_refusal, point_value}

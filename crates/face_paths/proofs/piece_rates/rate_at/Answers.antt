@@ -1,4 +1,3 @@
-use borrow.Author.Rules.{rules}
 use Rattle.face_paths.specs.PieceRates.{rate_c}
 use Rattle.face_paths.proofs.piece_rates.rate_at.Goals as goal
 

@@ -1,5 +1,4 @@
 use mathlib.Core.Path.{refl}
-use borrow.Author.Rules.{rules}
 use Rattle.face_paths.specs.PieceRates.{straight_c}
 use Rattle.checked.specs.Laws.{rules as checked_rules}
 use Rattle.face_paths.proofs.piece_rates.straight_rate.Goals as goal

@@ -1,4 +1,3 @@
-use borrow.Author.Rules.{rules}
 use Rattle.face_paths.specs.PieceRates.{wave_c}
 use Rattle.checked.specs.Laws.{rules as checked_rules}
 use Rattle.face_paths.proofs.piece_rates.wave_rate.Goals as goal

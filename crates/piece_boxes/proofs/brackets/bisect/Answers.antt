@@ -1,4 +1,3 @@
-use borrow.Author.Rules.{rules}
 use Rattle.piece_boxes.specs.Brackets.{chosen}
 use Rattle.checked.specs.Laws.{rules as checked_rules}
 use Rattle.piece_boxes.specs.BracketsLaws.{rules as windows_rules}

@@ -1,11 +1,7 @@
 use Prim.Native.Nat.{◌≤◌, ◌-◌}
-use mathlib.Core.Path.{◌≡◌}
-use native.Mathlib.Omega.{arith}
-use borrow.Author.Rules.{rules}
 use Rattle.checked.specs.Loops.{fold_c}
-use Rattle.checked.specs.LoopsLaws.{Done, done_none, done_more}
-use Rattle.piece_boxes.specs.Brackets.{bisect_c, bisected_c}
-use Rattle.piece_boxes.specs.BracketsLaws.{halve_refusal, halve_value}
+use Rattle.checked.specs.LoopsLaws.{Done}
+use Rattle.piece_boxes.specs.Brackets.{bisect_c}
 use Rattle.piece_boxes.proofs.brackets.bisected.Given as goal
 
 abbrev pub invariant-loop-i : goal.invariant-loop-i

@@ -1,4 +1,3 @@
-use borrow.Author.Rules.{rules}
 use Rattle.piece_boxes.specs.Brackets.{chosen}
 use Rattle.piece_boxes.proofs.brackets.chosen.Goals as goal
 

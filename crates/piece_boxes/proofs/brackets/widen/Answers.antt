@@ -1,4 +1,3 @@
-use borrow.Author.Rules.{rules}
 use Rattle.piece_boxes.specs.Brackets.{widened}
 use Rattle.piece_boxes.proofs.brackets.widen.Goals as goal
 

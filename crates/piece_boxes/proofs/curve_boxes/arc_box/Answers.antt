@@ -1,4 +1,3 @@
-use borrow.Author.Rules.{rules}
 use Rattle.piece_boxes.specs.CurveBoxes.{arc_c}
 use Rattle.checked.specs.Laws.{rules as checked_rules}
 use Rattle.piece_boxes.proofs.curve_boxes.arc_box.Goals as goal

@@ -1,4 +1,3 @@
-use borrow.Author.Rules.{rules}
 use Rattle.piece_boxes.specs.CurveBoxes.{ends}
 use Rattle.piece_boxes.proofs.curve_boxes.ends.Goals as goal
 

@@ -1,4 +1,3 @@
-use borrow.Author.Rules.{rules}
 use Rattle.piece_boxes.specs.CurveBoxes.{box_c}
 use Rattle.piece_boxes.proofs.curve_boxes.uv_box.Goals as goal
 

@@ -1,4 +1,3 @@
-use borrow.Author.Rules.{rules}
 use Rattle.piece_boxes.specs.MeetBoxes.{box_c}
 use Rattle.piece_boxes.specs.MeetBoxesLaws.{rules as meet_boxes_rules}
 use Rattle.piece_boxes.proofs.meet_boxes.meet_box.Goals as goal

@@ -1,4 +1,3 @@
-use borrow.Author.Rules.{rules}
 use mathlib.Core.Path.{refl}
 use Rattle.checked.specs.Laws.{zero_first}
 use Rattle.piece_boxes.proofs.meet_boxes.sample.Goals as goal

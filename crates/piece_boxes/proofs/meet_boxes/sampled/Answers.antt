@@ -1,13 +1,9 @@
-use Prim.Native.Nat.{◌≤◌, ◌-◌}
 use mathlib.Core.Path.{◌≡◌, refl}
 use native.Mathlib.Omega.{arith}
-use borrow.Author.Rules.{rules}
-use lib.ListN.{length, length-set}
+use lib.ListN.{length-set}
 use lib.Ieee.{of_bits, neg, div}
-use Rattle.checked.specs.Loops.{fold_c}
-use Rattle.checked.specs.LoopsLaws.{Done, done_none, done_more}
-use Rattle.piece_boxes.specs.MeetBoxes.{empty, step_c, start_c}
-use Rattle.piece_boxes.specs.SampleRows.{Stored}
+use Rattle.checked.specs.LoopsLaws.{done_none, done_more}
+use Rattle.piece_boxes.specs.MeetBoxes.{start_c}
 use Rattle.piece_boxes.specs.MeetBoxesLaws.{stored_none, stored_more, step_refusal, step_value, sample_refusal, sample_value}
 use Rattle.piece_boxes.proofs.meet_boxes.sampled.Goals as goal
 

@@ -1,10 +1,6 @@
-use Prim.Native.Nat.{◌≤◌, ◌-◌}
 use mathlib.Core.Path.{◌≡◌}
 use native.Mathlib.Omega.{arith}
-use borrow.Author.Rules.{rules}
-use Rattle.checked.specs.Loops.{fold_c}
-use Rattle.checked.specs.LoopsLaws.{Done, done_none, done_more}
-use Rattle.piece_boxes.specs.MeetBoxes.{span_c}
+use Rattle.checked.specs.LoopsLaws.{done_none, done_more}
 use Rattle.piece_boxes.specs.MeetBoxesLaws.{span_refusal, span_value}
 use Rattle.piece_boxes.proofs.meet_boxes.spanned.Goals as goal
 

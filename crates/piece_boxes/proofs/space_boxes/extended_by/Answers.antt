@@ -1,4 +1,3 @@
-use borrow.Author.Rules.{rules}
 use Rattle.piece_boxes.specs.SpaceBoxes.{points_c}
 use Rattle.checked.specs.Laws.{rules as checked_rules}
 use Rattle.piece_boxes.proofs.space_boxes.extended_by.Goals as goal

@@ -1,4 +1,3 @@
-use borrow.Author.Rules.{rules}
 use Rattle.checked.specs.Laws.{first_assoc}
 use Rattle.piece_boxes.specs.SpaceBoxesLaws.{rim_refusal, rim_value}
 use Rattle.piece_boxes.proofs.space_boxes.with_end_arc.Goals as goal

@@ -1,4 +1,3 @@
-use borrow.Author.Rules.{rules}
 use Rattle.piece_boxes.specs.SpaceBoxes.{end_arcs_c}
 use Rattle.checked.specs.Laws.{rules as checked_rules}
 use Rattle.boxes.proofs.Laws.{widened_append}

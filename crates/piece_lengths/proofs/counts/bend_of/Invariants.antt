@@ -1,13 +1,8 @@
 use Prim.Native.Nat.{◌≤◌, ◌-◌}
-use mathlib.Core.Path.{◌≡◌}
-use native.Mathlib.Omega.{arith}
-use borrow.Author.Rules.{rules}
-use lib.Ieee.{of_bits}
 use Rattle.checked.specs.Numbers.{zero}
 use Rattle.checked.specs.Loops.{fold_c}
-use Rattle.checked.specs.LoopsLaws.{Done, done_none, done_more}
-use Rattle.piece_lengths.specs.Counts.{sample_c, bend_c}
-use Rattle.piece_lengths.specs.CountsLaws.{sample_refusal, sample_value}
+use Rattle.checked.specs.LoopsLaws.{Done}
+use Rattle.piece_lengths.specs.Counts.{sample_c}
 use Rattle.piece_lengths.proofs.counts.bend_of.Given as goal
 
 -- the greatest of k samples

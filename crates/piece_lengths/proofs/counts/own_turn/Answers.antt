@@ -1,4 +1,3 @@
-use borrow.Author.Rules.{rules}
 use Rattle.piece_lengths.specs.Counts.{own_turn_c}
 use Rattle.piece_lengths.proofs.counts.own_turn.Goals as goal
 

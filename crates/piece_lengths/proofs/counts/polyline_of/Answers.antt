@@ -1,4 +1,3 @@
-use borrow.Author.Rules.{rules}
 use Rattle.piece_lengths.specs.Counts.{polyline_c}
 use Rattle.piece_lengths.proofs.counts.polyline_of.Goals as goal
 

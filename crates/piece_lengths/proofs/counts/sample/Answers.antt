@@ -1,4 +1,3 @@
-use borrow.Author.Rules.{rules}
 use Rattle.checked.specs.Laws.{first_assoc, zero_first}
 use Rattle.piece_lengths.proofs.counts.sample.Goals as goal
 

@@ -1,4 +1,3 @@
-use borrow.Author.Rules.{rules}
 use Rattle.piece_lengths.specs.Counts.{steep_c}
 use Rattle.piece_lengths.proofs.counts.steep.Goals as goal
 

@@ -1,4 +1,3 @@
-use borrow.Author.Rules.{rules}
 use Rattle.piece_lengths.specs.Counts.{wave_line_c}
 use Rattle.checked.specs.Laws.{rules as checked_rules}
 use Rattle.piece_lengths.specs.CountsLaws.{rules as run_counts_rules}

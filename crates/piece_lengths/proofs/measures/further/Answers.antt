@@ -1,4 +1,3 @@
-use borrow.Author.Rules.{rules}
 use Rattle.piece_lengths.specs.Measures.{further_c}
 use Rattle.checked.specs.Laws.{first_assoc, zero_first}
 use Rattle.piece_lengths.specs.MeasuresLaws.{further_refusal}

@@ -1,4 +1,3 @@
-use borrow.Author.Rules.{rules}
 use Rattle.piece_lengths.specs.Measures.{longer_c}
 use Rattle.piece_lengths.specs.MeasuresLaws.{longer_refusal}
 use mathlib.Core.Path.{sym, ◌∙◌}

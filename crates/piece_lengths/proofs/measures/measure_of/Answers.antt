@@ -1,5 +1,4 @@
 use mathlib.Core.Path.{◌∙◌, ap}
-use borrow.Author.Rules.{rules}
 use Rattle.checked.specs.Checked.{Checked}
 use Rattle.piece_lengths.specs.declared.measures.Measure.{Measure}
 use Rattle.piece_lengths.specs.Measures.{measure_c}

@@ -1,4 +1,3 @@
-use borrow.Author.Rules.{rules}
 use Rattle.checked.specs.Laws.{zero_first}
 use Rattle.piece_lengths.proofs.measures.meet_place.Goals as goal
 

@@ -1,14 +1,8 @@
 use Prim.Native.Nat.{◌+◌, ◌≤◌, ◌-◌}
-use mathlib.Core.Path.{◌≡◌, sym, ◌∙◌}
-use native.Mathlib.Omega.{arith}
-use borrow.Author.Rules.{rules}
-use Rattle.checked.specs.Laws.{zero_first, first_zero}
 use Rattle.checked.specs.Numbers.{zero}
 use Rattle.checked.specs.Loops.{fold_c}
-use Rattle.checked.specs.LoopsLaws.{Done, done_none, done_more, fold_value}
-use Rattle.piece_curves.specs.Points.{at_c}
-use Rattle.piece_lengths.specs.Measures.{place_c, places_c, longer_c, further_c, length_c, turned_c, traced_c, followed}
-use Rattle.piece_lengths.specs.MeasuresLaws.{meet_refusal, meet_value}
+use Rattle.checked.specs.LoopsLaws.{Done}
+use Rattle.piece_lengths.specs.Measures.{place_c, longer_c, further_c, followed}
 use Rattle.piece_lengths.proofs.measures.meet_traced.Given as goal
 
 -- after k chords: the place reached, and the sums

@@ -1,4 +1,3 @@
-use borrow.Author.Rules.{rules}
 use Rattle.piece_lengths.specs.Measures.{segment_c}
 use Rattle.checked.specs.Laws.{rules as checked_rules}
 use Rattle.piece_lengths.proofs.measures.segment.Goals as goal

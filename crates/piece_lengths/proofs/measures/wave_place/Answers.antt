@@ -1,4 +1,3 @@
-use borrow.Author.Rules.{rules}
 use Rattle.piece_curves.specs.Points.{at_c}
 use Rattle.piece_lengths.specs.Measures.{place_c}
 use Rattle.checked.specs.Laws.{rules as checked_rules}

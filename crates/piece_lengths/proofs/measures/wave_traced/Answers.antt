@@ -1,13 +1,10 @@
-use Prim.Native.Nat.{◌+◌, ◌≤◌, ◌-◌}
+use Prim.Native.Nat.{◌+◌}
 use mathlib.Core.Path.{◌≡◌, ◌∙◌}
 use native.Mathlib.Omega.{arith}
-use borrow.Author.Rules.{rules}
 use Rattle.checked.specs.Laws.{zero_first, first_zero}
-use Rattle.checked.specs.Numbers.{zero}
-use Rattle.checked.specs.Loops.{fold_c}
-use Rattle.checked.specs.LoopsLaws.{Done, done_none, done_more, fold_value}
+use Rattle.checked.specs.LoopsLaws.{done_none, done_more, fold_value}
 use Rattle.piece_curves.specs.Points.{at_c}
-use Rattle.piece_lengths.specs.Measures.{place_c, places_c, longer_c, further_c, length_c, turned_c, traced_c, wave_run}
+use Rattle.piece_lengths.specs.Measures.{place_c, places_c, length_c, turned_c, traced_c, wave_run}
 use Rattle.piece_lengths.proofs.measures.wave_traced.Goals as goal
 
 pub loop-j-init : goal.loop-j-init

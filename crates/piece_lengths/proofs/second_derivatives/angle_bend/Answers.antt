@@ -1,4 +1,3 @@
-use borrow.Author.Rules.{rules}
 use Rattle.piece_lengths.specs.SecondDerivatives.{angle_bend_c}
 use Rattle.checked.specs.Laws.{zero_first}
 use Rattle.piece_lengths.specs.SecondDerivativesLaws.{angle_bend_refusal}

@@ -1,4 +1,3 @@
-use borrow.Author.Rules.{rules}
 use Rattle.piece_lengths.specs.SecondDerivatives.{level_at_c, level_slope_c, level_bend_c, height_bend_c}
 use Rattle.checked.specs.Laws.{rules as checked_rules}
 use Rattle.checked.specs.Laws.{first_assoc}

@@ -1,4 +1,3 @@
-use borrow.Author.Rules.{rules}
 use Rattle.piece_lengths.specs.SecondDerivatives.{bend_v_c, bend_u_c}
 use Rattle.checked.specs.Laws.{rules as checked_rules}
 use Rattle.piece_lengths.specs.SecondDerivativesLaws.{rules as run_bends_rules}

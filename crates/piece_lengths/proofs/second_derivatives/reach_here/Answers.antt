@@ -1,4 +1,3 @@
-use borrow.Author.Rules.{rules}
 use Rattle.meets.specs.Quadratic.{intersection_c}
 use Rattle.checked.specs.Laws.{first_assoc}
 use Rattle.meets.specs.QuadraticLaws.{reach_refusal}

@@ -1,4 +1,3 @@
-use borrow.Author.Rules.{rules}
 use Rattle.piece_lengths.specs.SecondDerivatives.{second_c}
 use Rattle.piece_lengths.proofs.second_derivatives.second.Goals as goal
 

@@ -1,4 +1,3 @@
-use borrow.Author.Rules.{rules}
 use Rattle.segments.specs.Segments.{added_c}
 use Rattle.checked.specs.Laws.{first_assoc, zero_first}
 use Rattle.segments.specs.Laws.{added_refusal}

@@ -1,4 +1,3 @@
-use borrow.Author.Rules.{rules}
 use Rattle.segments.specs.Segments.{segment_c, bulge_c}
 use Rattle.checked.specs.Laws.{first_assoc, first_zero}
 use Rattle.segments.proofs.formula.segment.Goals as goal

@@ -1,4 +1,3 @@
-use borrow.Author.Rules.{rules}
 use Rattle.segments.specs.Segments.{slice_c}
 use Rattle.checked.specs.Laws.{first_assoc}
 use Rattle.segments.specs.Laws.{slice_refusal}
