@@ -1,3 +1,3 @@
-// Theorems only: what holds of curves for every input. See specs/.
+// Theorems only: what holds of curves for every input. See proofs/, and specs/ for the words.
 
 #![tactic(auto)]
