@@ -1,6 +1,6 @@
 -- A curve in space: an arc, or a piece of a development at a radius from its axis.
 use Rattle.std.specs.Prelude.{List}
-use Rattle.checked.specs.Checked.{Checked, first, ◌>>=◌, given}
+use Rattle.checked.specs.Checked.{Checked, ◌>>=◌, given}
 use Rattle.traces.specs.Traces.{Optional, some, none}
 use Rattle.vectors.specs.declared.Vec3.{Vec3}
 use Rattle.motions.specs.declared.Rigid.{Rigid}

@@ -1,7 +1,7 @@
 -- What drawing a curve to a lent row is due to answer.
 use Rattle.std.specs.Prelude.{ℕ, ◌-◌, ◌*◌, ◌&&◌, List, Float}
 use Rattle.checked.specs.Refusals.{OUT_OF_RANGE}
-use Rattle.checked.specs.Checked.{Checked, first, ◌>>=◌, within, Due, answered}
+use Rattle.checked.specs.Checked.{Checked, ◌>>=◌, within, Due, answered}
 use Rattle.checked.specs.Answers.{and_then}
 use Rattle.checked.specs.Tests.{fails, ◌or◌, passing, chord_test}
 use Rattle.vectors.specs.declared.Vec3.{Vec3}

@@ -1,7 +1,7 @@
 -- What the entries on curves are due to answer.
-use Rattle.std.specs.Prelude.{ℕ, ◌&&◌, List}
+use Rattle.std.specs.Prelude.{ℕ, ◌&&◌}
 use Rattle.checked.specs.Refusals.{OUT_OF_RANGE}
-use Rattle.checked.specs.Checked.{Checked, within, Due, due, refused, answered}
+use Rattle.checked.specs.Checked.{within, Due, due, refused, answered}
 use Rattle.checked.specs.Tests.{fails, ◌or◌, passing}
 use Rattle.traces.specs.Traces.{Optional, some, none}
 use Rattle.vectors.specs.declared.Vec3.{Vec3}

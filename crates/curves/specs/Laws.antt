@@ -1,7 +1,6 @@
 -- The points by which a curve widens a box. Assumes nothing.
-use Rattle.std.specs.Prelude.{◌≡◌, List}
+use Rattle.std.specs.Prelude.{◌≡◌}
 use Rattle.std.proofs.Common.{ap}
-use Rattle.checked.specs.Checked.{Checked}
 use Rattle.vectors.specs.declared.Vec3.{Vec3}
 use Rattle.boxes.specs.Boxes.{Sound}
 use Rattle.arcs.specs.Sound as arcs_sound

@@ -1,6 +1,6 @@
 -- What a curve is made of: an arc and a piece moved, a piece's points in space.
 use Rattle.std.specs.Prelude.{List, Float}
-use Rattle.checked.specs.Checked.{Checked, first, ◌>>=◌, given}
+use Rattle.checked.specs.Checked.{Checked, ◌>>=◌, given}
 use Rattle.vectors.specs.declared.Vec3.{Vec3}
 use Rattle.motions.specs.declared.Rigid.{Rigid}
 use Rattle.motions.specs.Axes as axes

@@ -1,5 +1,5 @@
 -- Where no refusal is met, every point by which a piece widens a box is finite. Assumes nothing.
-use Rattle.std.specs.Prelude.{◌≡◌, Float}
+use Rattle.std.specs.Prelude.{Float}
 use Rattle.boxes.specs.Boxes.{Sound}
 use Rattle.boxes.proofs.Laws.{sound_then}
 use Rattle.pieces.specs.declared.Rolled.{Rolled}

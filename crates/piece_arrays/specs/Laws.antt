@@ -7,7 +7,6 @@ use Rattle.vectors.specs.declared.Vec3.{Vec3}
 use Rattle.developments.specs.declared.Development.{Development}
 use Rattle.meets.specs.declared.Turn.{Turn}
 use Rattle.meets.specs.declared.Turn.TheVariants as turn
-use Rattle.meets.specs.declared.Meet.{Meet}
 use Rattle.traces.specs.declared.Trace.TheVariants as trace
 use Rattle.piece_curves.specs.declared.PieceArc.{PieceArc}
 use Rattle.piece_curves.specs.declared.PieceArc.TheVariants as arc_variants

@@ -2,7 +2,7 @@
 use Rattle.std.specs.Prelude.{ℕ, Bool, not, ◌&&◌, Float}
 use Rattle.std.specs.Float.Ieee.{lt}
 use Rattle.checked.specs.Refusals.{OUT_OF_RANGE, ARC_AND_TRACE, BAD_TOLERANCE}
-use Rattle.checked.specs.Checked.{Checked, first, ◌>>=◌, within, Due, due, refused, answered}
+use Rattle.checked.specs.Checked.{◌>>=◌, within, Due, due, refused, answered}
 use Rattle.checked.specs.Numbers.{zero}
 use Rattle.checked.specs.Tests.{fails, ◌or◌, passing, neutral_test, chord_test}
 use Rattle.vectors.specs.declared.Vec2.{Vec2}

@@ -1,6 +1,6 @@
 -- A piece of a development: what it follows, and the piece run the other way.
 use Rattle.std.specs.Prelude.{Float}
-use Rattle.checked.specs.Checked.{Checked, first, ◌>>=◌}
+use Rattle.checked.specs.Checked.{Checked, ◌>>=◌}
 use Rattle.vectors.specs.declared.Vec2.{Vec2}
 use Rattle.vectors.specs.declared.Vec3.{Vec3}
 use Rattle.piece_curves.specs.declared.PieceCurve.{PieceCurve}

@@ -2,7 +2,6 @@
 use Rattle.std.specs.Prelude.{not}
 use Rattle.meets.specs.declared.Turn.{Turn}
 use Rattle.meets.specs.declared.Turn.TheVariants as turn
-use Rattle.meets.specs.declared.Meet.{Meet}
 use Rattle.traces.specs.declared.Trace.{Trace}
 use Rattle.traces.specs.declared.Trace.TheVariants as trace
 use Rattle.piece_curves.specs.declared.PieceArc.{PieceArc}

@@ -5,7 +5,7 @@
 -- higher number.)
 use Rattle.std.specs.Prelude.{ℕ, zero, suc, ◌≡◌, Bool, false, ◌&&◌}
 use Rattle.std.proofs.Math.Path.{refl, sym, ap}
-use Rattle.std.proofs.Common.{◌∙◌, arith}
+use Rattle.std.proofs.Common.{◌∙◌}
 use Rattle.std.proofs.Math.Bool.{true}
 use mathlib.Core.List.{List, [], ◌∷◌}
 use Rattle.std.specs.Float.Ieee.{of_bits}
@@ -13,7 +13,7 @@ use Rattle.std.specs.Float.Ieee.Bits.{is_true}
 use Rattle.checked.specs.PatternLaws.{yes}
 use Rattle.checked.specs.Checked.{Checked, first, is_finite, Due, due, refused, settled, answered}
 use Rattle.checked.specs.Answers.{and_then}
-use Rattle.checked.specs.Tests.{fails, passing}
+use Rattle.checked.specs.Tests.{passing}
 use Rattle.checked.specs.TestsLaws.{passing_none, fails_none, never, holds, accepted as tests_accepted}
 use Rattle.checked.specs.Laws.{first_none, zero_first}
 use Rattle.vectors.specs.declared.Vec3.{Vec3}

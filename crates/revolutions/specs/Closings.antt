@@ -2,7 +2,7 @@
 use Rattle.std.specs.Prelude.{Bool, cond, ◌&&◌, Float}
 use Rattle.std.specs.Float.Ieee.{neg}
 use Rattle.checked.specs.Refusals.{OUT_OF_RANGE, BAD_BOX_OR_SUMS}
-use Rattle.checked.specs.Checked.{Checked, first, ◌>>=◌, given, num, ◌⊕◌, ◌⊗◌, Due, answered}
+use Rattle.checked.specs.Checked.{Checked, ◌>>=◌, given, num, ◌⊕◌, ◌⊗◌, Due, answered}
 use Rattle.checked.specs.Tests.{fails, ◌or◌, passing}
 use Rattle.checked.specs.Numbers.{one}
 use Rattle.vectors.specs.Vectors.{vec, ◌⊞◌}

@@ -1,9 +1,9 @@
 -- Integrals of a face on a surface of revolution: `revolution` over the list of its paths, and the
 -- calls that stand in its place.
-use Rattle.std.specs.Prelude.{ℕ, Bool, true, not, ◌&&◌, List, [], ◌∷◌, Float}
+use Rattle.std.specs.Prelude.{ℕ, Bool, true, not, ◌&&◌, List, [], ◌∷◌}
 use Rattle.std.specs.Float.Ieee.{lt, eq}
 use Rattle.checked.specs.Refusals.{OUT_OF_RANGE, NEUTRAL_NOT_POSITIVE, ARC_AND_TRACE, BAD_BOX_OR_SUMS, PIECE_ON_CONE}
-use Rattle.checked.specs.Checked.{Checked, first, ◌>>=◌, given, Due, due, refused, answered}
+use Rattle.checked.specs.Checked.{Checked, ◌>>=◌, given, Due, due, answered}
 use Rattle.checked.specs.Answers.{and_then}
 use Rattle.checked.specs.Tests.{fails, ◌or◌, passing}
 use Rattle.checked.specs.Numbers.{zero}

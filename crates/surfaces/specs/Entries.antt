@@ -1,7 +1,7 @@
 -- What the entries on surfaces are due to answer.
 use Rattle.std.specs.Prelude.{ℕ, ◌&&◌}
 use Rattle.checked.specs.Refusals.{OUT_OF_RANGE}
-use Rattle.checked.specs.Checked.{Checked, within, Due, due, refused, answered}
+use Rattle.checked.specs.Checked.{within, Due, due, refused, answered}
 use Rattle.checked.specs.Tests.{fails, ◌or◌, passing}
 use Rattle.traces.specs.Traces.{Optional, some, none}
 use Rattle.vectors.specs.declared.Vec3.{Vec3}
@@ -12,7 +12,6 @@ use Rattle.cones.specs.declared.Cone.{Cone}
 use Rattle.cones.specs.Entries.{cone_within}
 use Rattle.pieces.specs.Entries as pieces
 use Rattle.surfaces.specs.declared.Plane.{Plane}
-use Rattle.surfaces.specs.declared.Cylinder.{Cylinder}
 use Rattle.surfaces.specs.declared.Surface.{Surface}
 use Rattle.surfaces.specs.declared.Surface.TheVariants as surface
 use Rattle.surfaces.specs.declared.SurfaceAnswer.{SurfaceAnswer}

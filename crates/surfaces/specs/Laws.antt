@@ -1,12 +1,12 @@
 -- Which notes of a normal suffice: turning round keeps what is finite. Assumes nothing.
-use Rattle.std.specs.Prelude.{ℕ, ◌≡◌, refl, Bool, true, false, cond, Float}
-use Rattle.std.proofs.Common.{sym, ◌∙◌, ap}
+use Rattle.std.specs.Prelude.{◌≡◌, refl, Bool, true, false, Float}
+use Rattle.std.proofs.Common.{◌∙◌, ap}
 use Rattle.std.specs.Float.{nan, inf, fin}
 use Rattle.std.specs.Float.Ieee.{neg}
-use Rattle.checked.specs.Checked.{Checked, first, is_finite, nine}
+use Rattle.checked.specs.Checked.{first, is_finite, nine}
 use Rattle.checked.specs.Laws.{first_assoc, first_zero, first_same, rules as checked_rules}
 use Rattle.vectors.specs.declared.Vec3.{Vec3}
-use Rattle.vectors.specs.Vectors.{is_finite3, nines, vec, neg_c, minus_c, times_c}
+use Rattle.vectors.specs.Vectors.{is_finite3, nines, neg_c, minus_c, times_c}
 use Rattle.vectors.specs.Laws.{neg_nine, rules as vectors_rules}
 use Rattle.directions.specs.Directions.{length_c, unit_c, across_c, radial_c}
 use Rattle.directions.specs.Laws.{unit_refusal, radial_refusal, rules as directions_rules}

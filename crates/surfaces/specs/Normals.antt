@@ -1,6 +1,6 @@
 -- Unit normals out of a body on a cylinder and on a cone.
 use Rattle.std.specs.Prelude.{Bool, cond, Float}
-use Rattle.checked.specs.Checked.{Checked, first, ◌>>=◌, given, num}
+use Rattle.checked.specs.Checked.{Checked, ◌>>=◌, num}
 use Rattle.vectors.specs.declared.Vec3.{Vec3}
 use Rattle.vectors.specs.Vectors.{vec, neg_c, ◌⊟◌, ◌⊠◌}
 use Rattle.directions.specs.Directions.{unit_c, radial_c}

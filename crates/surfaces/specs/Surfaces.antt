@@ -1,5 +1,5 @@
 -- The surface that a face lies on: a plane, a cylinder, a cone, or the wall over a piece.
-use Rattle.checked.specs.Checked.{Checked, first, ◌>>=◌, given}
+use Rattle.checked.specs.Checked.{Checked, ◌>>=◌, given}
 use Rattle.checked.specs.Numbers.{zero}
 use Rattle.traces.specs.Traces.{Optional, some, none}
 use Rattle.vectors.specs.declared.Vec3.{Vec3}
@@ -13,7 +13,6 @@ use Rattle.pieces.specs.declared.Rolled.{Rolled}
 use Rattle.pieces.specs.Pieces as pieces
 use Rattle.curves.specs.Parts.{moved_piece_c}
 use Rattle.surfaces.specs.declared.Plane.{Plane}
-use Rattle.surfaces.specs.declared.Cylinder.{Cylinder}
 use Rattle.surfaces.specs.declared.Surface.{Surface}
 use Rattle.surfaces.specs.declared.Surface.TheVariants as surface
 

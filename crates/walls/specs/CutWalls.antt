@@ -1,7 +1,7 @@
 -- The sums of the wall of a cut: the piece of the development that it follows, swept along the
 -- radius.
 use Rattle.std.specs.Prelude.{Float}
-use Rattle.checked.specs.Checked.{Checked, first, ◌>>=◌, given}
+use Rattle.checked.specs.Checked.{Checked, ◌>>=◌, given}
 use Rattle.vectors.specs.declared.Vec3.{Vec3}
 use Rattle.integrals.specs.declared.SurfaceIntegrals.{SurfaceIntegrals}
 use Rattle.integrals.specs.declared.Integrals.{Integrals}

@@ -1,5 +1,5 @@
 -- Cases worked out by hand: one list, which one lemma checks by computing what is due.
-use Rattle.std.specs.Prelude.{ℕ, zero as none, suc, ◌/◌, ◌%◌, ◌≡◌, refl, Bool, true, false, List, [], ◌∷◌, ◌++◌, length, Float}
+use Rattle.std.specs.Prelude.{ℕ, zero as none, suc, ◌/◌, ◌%◌, ◌≡◌, refl, true, false, List, [], ◌∷◌, ◌++◌, length, Float}
 use Prim.Native.String.{String}
 use Rattle.std.specs.Float.{binary64}
 use Rattle.std.specs.Float.Ieee.{add, sub, mul, div, neg, lt, le, eq, is_nan, of_bits, to_bits, of_int, to_unsigned, to_signed}
@@ -23,7 +23,6 @@ use Rattle.vectors.specs.declared.Vec2.{Vec2}
 use Rattle.vectors.specs.declared.Vec3.{Vec3}
 use Rattle.vectors.specs.Vectors.{space, plane, origin, within2, within3, plus_c, minus_c, times_c, neg_c, cross_c, dot_c}
 use Rattle.boxes.specs.Boxes.{empty, lesser, greater, widened, widened_by, numbers, free, box_call}
-use Rattle.boxes.specs.declared.Bounds.{Bounds}
 use Rattle.profile_arcs.specs.declared.ProfileArc.{ProfileArc}
 use Rattle.directions.specs.Directions.{length_c, across_c}
 use Rattle.profile_arcs.specs.Angles.{ahead_c, back_c}

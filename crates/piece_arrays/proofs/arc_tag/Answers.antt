@@ -1,5 +1,4 @@
 use Rattle.piece_arrays.specs.Arrays.{arc_tag}
-use borrow.Author.Rules.{rules}
 use Rattle.piece_arrays.proofs.arc_tag.Goals as goal
 
 pub returns-in-Without : goal.returns-in-Without

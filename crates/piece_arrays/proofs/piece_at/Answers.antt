@@ -1,4 +1,3 @@
-use borrow.Author.Rules.{rules}
 use Rattle.piece_arrays.proofs.piece_at.Goals as goal
 
 pub returns : goal.returns

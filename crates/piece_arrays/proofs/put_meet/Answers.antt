@@ -1,6 +1,5 @@
 use Rattle.c_arrays.specs.Records.{over}
 use Rattle.piece_arrays.specs.Arrays.{of_meet}
-use borrow.Author.Rules.{rules}
 use Rattle.piece_arrays.proofs.put_meet.Goals as goal
 
 pub returns : goal.returns

@@ -3,7 +3,6 @@ use mathlib.Core.List.{List}
 use lib.Ieee.{Float}
 use Rattle.c_arrays.specs.Records.{over}
 use Rattle.piece_arrays.specs.Arrays.{FROM, CENTRE, TRACE, of_ends, of_centre, of_trace, with_piece}
-use borrow.Author.Rules.{rules}
 use Rattle.piece_arrays.proofs.put_piece.Goals as goal
 
 pub returns : goal.returns

@@ -2,7 +2,6 @@ use Rattle.c_arrays.specs.Records.{over}
 use Rattle.piece_arrays.specs.Arrays.{of_trace}
 use native.Mathlib.Omega.{arith}
 use lib.ListN.{length-set}
-use borrow.Author.Rules.{rules}
 use Rattle.piece_arrays.proofs.put_trace.Goals as goal
 
 pub bounds-out : goal.bounds-out

@@ -1,4 +1,3 @@
-use borrow.Author.Rules.{rules}
 use Rattle.checked.specs.Checked.{within}
 use Rattle.vectors.specs.Vectors.{within3}
 use Rattle.developments.specs.Developments.{development_within}

@@ -1,4 +1,3 @@
-use borrow.Author.Rules.{rules}
 use Rattle.checked.specs.Laws.{settled_some, settled_none}
 use mathlib.Core.Path.{sym}
 use Rattle.pieces.proofs.settle_box.Goals as goal

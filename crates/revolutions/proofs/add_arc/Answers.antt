@@ -1,4 +1,3 @@
-use borrow.Author.Rules.{rules}
 use Rattle.revolutions.specs.Revolutions.{add_due, tests, path_neutral, path_single, lies_on}
 use Rattle.revolutions.specs.Laws.{arc_is}
 use Rattle.checked.specs.Laws.{first_zero}

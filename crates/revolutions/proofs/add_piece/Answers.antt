@@ -1,4 +1,3 @@
-use borrow.Author.Rules.{rules}
 use Rattle.revolutions.specs.Revolutions.{add_due}
 use Rattle.revolutions.specs.Laws.{piece_is}
 use Rattle.checked.specs.TestsLaws.{passing_none, passing_some}

@@ -1,4 +1,3 @@
-use borrow.Author.Rules.{rules}
 use Rattle.revolutions.specs.Revolutions.{path_within, face_within}
 use Rattle.revolutions.proofs.arc_within.Goals as goal
 

@@ -1,4 +1,3 @@
-use borrow.Author.Rules.{rules}
 use Rattle.revolutions.specs.Revolutions.{face_within}
 use Rattle.revolutions.proofs.face_within.Goals as goal
 

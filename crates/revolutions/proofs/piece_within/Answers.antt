@@ -1,4 +1,3 @@
-use borrow.Author.Rules.{rules}
 use Rattle.pieces.specs.Entries.{piece_within}
 use Rattle.revolutions.specs.Revolutions.{path_within}
 use Rattle.revolutions.proofs.piece_within.Goals as goal

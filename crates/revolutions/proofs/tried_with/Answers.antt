@@ -1,4 +1,3 @@
-use borrow.Author.Rules.{rules}
 use Rattle.revolutions.specs.Revolutions.{tests, path_neutral, path_single, lies_on}
 use Rattle.revolutions.proofs.tried_with.Goals as goal
 

@@ -1,4 +1,3 @@
-use borrow.Author.Rules.{rules}
 use Rattle.walls.specs.Walls.{added_c}
 use Rattle.walls.proofs.added.Goals as goal
 

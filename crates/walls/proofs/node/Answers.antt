@@ -1,4 +1,3 @@
-use borrow.Author.Rules.{rules}
 use Rattle.checked.specs.Laws.{first_assoc}
 use Rattle.walls.specs.Laws.{station_refusal, station_value}
 use Rattle.walls.proofs.node.Goals as goal

@@ -1,4 +1,3 @@
-use borrow.Author.Rules.{rules}
 use Rattle.walls.specs.Walls.{normal_c}
 use Rattle.walls.proofs.normal.Goals as goal
 

@@ -1,4 +1,3 @@
-use borrow.Author.Rules.{rules}
 use Rattle.walls.specs.Walls.{patch_c}
 use Rattle.walls.proofs.patch.Goals as goal
 

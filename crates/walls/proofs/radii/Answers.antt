@@ -1,10 +1,6 @@
 use mathlib.Core.Path.{◌≡◌}
-use Prim.Native.Nat.{◌≤◌, ◌-◌}
 use native.Mathlib.Omega.{arith}
-use borrow.Author.Rules.{rules}
-use Rattle.checked.specs.Loops.{fold_c}
 use Rattle.checked.specs.LoopsLaws.{fold_none, fold_value}
-use Rattle.walls.specs.Walls.{radius_c}
 use Rattle.walls.proofs.radii.Goals as goal
 
 pub loop-k-init : goal.loop-k-init

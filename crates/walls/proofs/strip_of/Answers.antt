@@ -1,4 +1,3 @@
-use borrow.Author.Rules.{rules}
 use Rattle.walls.specs.Walls.{strip_c}
 use Rattle.checked.specs.Laws.{first_assoc, zero_first}
 use Rattle.walls.specs.Laws.{strip_refusal}

@@ -1,4 +1,3 @@
-use borrow.Author.Rules.{rules}
 use Rattle.curves.specs.Curves.{arc_of}
 use Rattle.curves.specs.Entries.{arc_due}
 use Rattle.checked.specs.TestsLaws.{passing_none, passing_some}

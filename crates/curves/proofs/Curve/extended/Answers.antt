@@ -1,4 +1,3 @@
-use borrow.Author.Rules.{rules}
 use Rattle.curves.specs.Entries.{handed, extend_due}
 use Rattle.curves.specs.Laws.{points_arc, points_piece}
 use Rattle.checked.specs.TestsLaws.{passing_none, passing_some}

@@ -1,4 +1,3 @@
-use borrow.Author.Rules.{rules}
 use Rattle.curves.proofs.Curve.outcome.Goals as goal
 
 pub returns : goal.returns

@@ -1,4 +1,3 @@
-use borrow.Author.Rules.{rules}
 use Rattle.curves.specs.Entries.{tests}
 use Rattle.curves.proofs.Curve.tried.Goals as goal
 

@@ -1,4 +1,3 @@
-use borrow.Author.Rules.{rules}
 use Rattle.curves.specs.Drawn.{chords_of, ready}
 use Rattle.curves.proofs.drawn.cut_up.Goals as goal
 

@@ -5,7 +5,6 @@ use mathlib.Core.Path.{sym}
 use lib.Seq.{length-take-le}
 use Rattle.rows.specs.Rows.{point}
 use Rattle.rows.specs.Laws.{part_taken, part_fits}
-use borrow.Author.Rules.{rules}
 use Rattle.curves.proofs.drawn.inner_points.Goals as goal
 
 pub slice_bounds-result-end : goal.slice_bounds-result-end

@@ -1,4 +1,3 @@
-use borrow.Author.Rules.{rules}
 use Rattle.curves.specs.Drawn.{tests}
 use Rattle.curves.proofs.drawn.tried.Goals as goal
 

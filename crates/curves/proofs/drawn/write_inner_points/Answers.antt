@@ -1,4 +1,3 @@
-use borrow.Author.Rules.{rules}
 use Rattle.curves.specs.Drawn.{inner_points_due}
 use Rattle.curves.proofs.drawn.write_inner_points.Goals as goal
 

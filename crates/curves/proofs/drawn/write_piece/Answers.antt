@@ -1,6 +1,4 @@
 use mathlib.Core.Path.{◌≡◌, sym, ◌∙◌}
-use borrow.Author.Rules.{rules}
-use Rattle.checked.specs.Checked.{Checked}
 use Rattle.checked.specs.Laws.{settled_none, settled_some}
 use Rattle.checked.specs.TestsLaws.{passing_none}
 use Rattle.rows.specs.Rows.{point}

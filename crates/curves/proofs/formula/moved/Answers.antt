@@ -1,4 +1,3 @@
-use borrow.Author.Rules.{rules}
 use Rattle.curves.specs.Curves.{moved_c}
 use Rattle.checked.specs.Laws.{rules as checked_rules}
 use Rattle.curves.proofs.formula.moved.Goals as goal

@@ -1,4 +1,3 @@
-use borrow.Author.Rules.{rules}
 use Rattle.curves.specs.Curves.{reversed_c}
 use Rattle.checked.specs.Laws.{rules as checked_rules}
 use Rattle.curves.proofs.formula.reversed.Goals as goal

@@ -1,4 +1,3 @@
-use borrow.Author.Rules.{rules}
 use Rattle.curves.specs.Parts.{moved_piece_c}
 use Rattle.checked.specs.Laws.{rules as checked_rules}
 use Rattle.curves.proofs.parts.moved_piece.Goals as goal

@@ -1,4 +1,3 @@
-use borrow.Author.Rules.{rules}
 use Rattle.pieces.specs.Entries.{piece_within}
 use Rattle.pieces.proofs.Rolled.is_within_limit.Goals as goal
 

@@ -1,4 +1,3 @@
-use borrow.Author.Rules.{rules}
 use Rattle.pieces.specs.Entries.{tests}
 use Rattle.pieces.proofs.Rolled.tried.Goals as goal
 

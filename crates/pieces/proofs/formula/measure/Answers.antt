@@ -1,4 +1,3 @@
-use borrow.Author.Rules.{rules}
 use Rattle.checked.specs.Laws.{zero_first}
 use Rattle.piece_curves.specs.PieceCurves.{kind_c}
 use Rattle.piece_curves.specs.PieceCurves as runs

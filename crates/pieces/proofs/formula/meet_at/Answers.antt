@@ -1,4 +1,3 @@
-use borrow.Author.Rules.{rules}
 use Rattle.piece_curves.specs.MeetCurves.{at_c}
 use Rattle.checked.specs.Laws.{first_zero}
 use Rattle.piece_curves.specs.MeetCurvesLaws.{point_refusal, point_value}

@@ -1,4 +1,3 @@
-use borrow.Author.Rules.{rules}
 use Rattle.pieces.specs.Pieces.{normal_c}
 use Rattle.pieces.proofs.formula.normal.Goals as goal
 

@@ -1,4 +1,3 @@
-use borrow.Author.Rules.{rules}
 use Rattle.pieces.specs.Pieces.{back}
 use Rattle.pieces.proofs.formula.reversed.Goals as goal
 

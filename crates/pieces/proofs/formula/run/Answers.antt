@@ -1,4 +1,3 @@
-use borrow.Author.Rules.{rules}
 use Rattle.pieces.specs.Pieces.{run_c}
 use Rattle.pieces.proofs.formula.run.Goals as goal
 

@@ -1,4 +1,3 @@
-use borrow.Author.Rules.{rules}
 use Rattle.pieces.proofs.formula.run_measure.Goals as goal
 
 pub returns : goal.returns

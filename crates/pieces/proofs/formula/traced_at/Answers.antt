@@ -1,4 +1,3 @@
-use borrow.Author.Rules.{rules}
 use Rattle.checked.specs.Laws.{zero_first, first_zero}
 use Rattle.piece_curves.specs.PieceCurves.{traced_c, meet_kind_c}
 use Rattle.piece_curves.specs.Points.{at_c}

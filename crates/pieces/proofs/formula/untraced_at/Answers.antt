@@ -1,4 +1,3 @@
-use borrow.Author.Rules.{rules}
 use Rattle.piece_curves.specs.PieceCurves.{untraced}
 use Rattle.piece_curves.specs.Points.{at_c}
 use Rattle.pieces.proofs.formula.untraced_at.Goals as goal

@@ -1,4 +1,3 @@
-use borrow.Author.Rules.{rules}
 use Rattle.pieces.specs.Reversals.{arc_back}
 use Rattle.pieces.proofs.parts.arc_back.Goals as goal
 

@@ -1,4 +1,3 @@
-use borrow.Author.Rules.{rules}
 use Rattle.pieces.specs.Tests.{both}
 use Rattle.pieces.proofs.parts.are_both.Goals as goal
 

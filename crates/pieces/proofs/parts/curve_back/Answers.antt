@@ -1,4 +1,3 @@
-use borrow.Author.Rules.{rules}
 use Rattle.pieces.specs.Reversals.{curve_back}
 use Rattle.pieces.proofs.parts.curve_back.Goals as goal
 

@@ -1,4 +1,3 @@
-use borrow.Author.Rules.{rules}
 use Rattle.pieces.specs.Tests.{arc_within}
 use Rattle.pieces.proofs.parts.is_arc_within.Goals as goal
 

@@ -1,4 +1,3 @@
-use borrow.Author.Rules.{rules}
 use Rattle.pieces.specs.Tests.{followed_within}
 use Rattle.pieces.proofs.parts.is_trace_within.Goals as goal
 

@@ -1,4 +1,3 @@
-use borrow.Author.Rules.{rules}
 use Rattle.pieces.specs.Tests.{is_traced}
 use Rattle.pieces.proofs.parts.is_traced.Goals as goal
 

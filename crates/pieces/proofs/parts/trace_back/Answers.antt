@@ -1,4 +1,3 @@
-use borrow.Author.Rules.{rules}
 use Rattle.pieces.specs.Reversals.{trace_back}
 use Rattle.pieces.proofs.parts.trace_back.Goals as goal
 

@@ -1,4 +1,3 @@
-use borrow.Author.Rules.{rules}
 use Rattle.pieces.specs.Reversals.{turn_back}
 use Rattle.pieces.proofs.parts.turn_back.Goals as goal
 

@@ -1,4 +1,3 @@
-use borrow.Author.Rules.{rules}
 use Rattle.revolutions.proofs.closings.are_finite.Goals as goal
 
 pub returns : goal.returns

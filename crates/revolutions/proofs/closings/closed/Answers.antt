@@ -1,4 +1,3 @@
-use borrow.Author.Rules.{rules}
 use Rattle.revolutions.specs.Closings.{close_due}
 use Rattle.checked.specs.TestsLaws.{passing_none, passing_some}
 use mathlib.Core.Path.{sym}

@@ -1,4 +1,3 @@
-use borrow.Author.Rules.{rules}
 use Rattle.revolutions.specs.Closings.{close_c}
 use Rattle.checked.specs.Laws.{zero_first}
 use Rattle.revolutions.specs.ClosingsLaws.{close_refusal}

@@ -1,4 +1,3 @@
-use borrow.Author.Rules.{rules}
 use Rattle.revolutions.specs.Closings.{close_due}
 use Rattle.revolutions.proofs.closings.outcome.Goals as goal
 

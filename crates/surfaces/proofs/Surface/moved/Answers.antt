@@ -1,4 +1,3 @@
-use borrow.Author.Rules.{rules}
 use Rattle.surfaces.specs.Entries.{moved_due}
 use Rattle.checked.specs.TestsLaws.{passing_none, passing_some}
 use mathlib.Core.Path.{sym}

@@ -1,4 +1,3 @@
-use borrow.Author.Rules.{rules}
 use Rattle.surfaces.specs.Surfaces.{plane_of}
 use Rattle.surfaces.specs.Entries.{plane_due}
 use Rattle.checked.specs.TestsLaws.{passing_none, passing_some}

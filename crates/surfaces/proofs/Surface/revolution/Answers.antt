@@ -1,4 +1,3 @@
-use borrow.Author.Rules.{rules}
 use Rattle.surfaces.specs.Surfaces.{cone_of}
 use Rattle.surfaces.specs.Entries.{revolution_due}
 use Rattle.checked.specs.TestsLaws.{passing_none, passing_some}

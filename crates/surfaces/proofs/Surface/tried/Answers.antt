@@ -1,4 +1,3 @@
-use borrow.Author.Rules.{rules}
 use Rattle.surfaces.specs.Entries.{tests}
 use Rattle.surfaces.proofs.Surface.tried.Goals as goal
 

@@ -1,4 +1,3 @@
-use borrow.Author.Rules.{rules}
 use Rattle.surfaces.specs.Surfaces.{normal_c}
 use Rattle.surfaces.proofs.formula.normal.Goals as goal
 

@@ -1,4 +1,3 @@
-use borrow.Author.Rules.{rules}
 use Rattle.surfaces.specs.Surfaces.{wall_c}
 use Rattle.checked.specs.Laws.{rules as checked_rules}
 use Rattle.surfaces.proofs.formula.wall_normal.Goals as goal

@@ -1,4 +1,3 @@
-use borrow.Author.Rules.{rules}
 use Rattle.surfaces.specs.Normals.{cone_c}
 use Rattle.surfaces.specs.Laws.{cone_refusal}
 use mathlib.Core.Path.{sym, ◌∙◌}

@@ -1,4 +1,3 @@
-use borrow.Author.Rules.{rules}
 use Rattle.surfaces.specs.Normals.{cylinder_c}
 use Rattle.surfaces.specs.Laws.{cylinder_refusal}
 use mathlib.Core.Path.{sym, ◌∙◌}

@@ -1,4 +1,3 @@
-use borrow.Author.Rules.{rules}
 use Rattle.surfaces.specs.Normals.{faced_c}
 use Rattle.surfaces.proofs.normals.faced.Goals as goal
 

@@ -1,4 +1,3 @@
-use borrow.Author.Rules.{rules}
 use Rattle.pieces.specs.Entries.{piece_within}
 use Rattle.walls.specs.Entries.{wall_within}
 use Rattle.walls.proofs.cut_walls.is_wall_within.Goals as goal

@@ -1,4 +1,3 @@
-use borrow.Author.Rules.{rules}
 use Rattle.walls.specs.Entries.{wall_due}
 use Rattle.walls.proofs.cut_walls.outcome.Goals as goal
 

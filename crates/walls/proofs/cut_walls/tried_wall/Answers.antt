@@ -1,4 +1,3 @@
-use borrow.Author.Rules.{rules}
 use Rattle.walls.specs.Entries.{wall_tests}
 use Rattle.walls.proofs.cut_walls.tried_wall.Goals as goal
 

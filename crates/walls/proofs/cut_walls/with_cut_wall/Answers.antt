@@ -1,5 +1,4 @@
 use mathlib.Core.Path.{sym}
-use borrow.Author.Rules.{rules}
 use Rattle.checked.specs.TestsLaws.{passing_none, passing_some}
 use Rattle.walls.specs.Entries.{wall_due}
 use Rattle.walls.proofs.cut_walls.with_cut_wall.Goals as goal

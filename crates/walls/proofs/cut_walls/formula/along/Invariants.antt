@@ -1,11 +1,7 @@
-use mathlib.Core.Path.{◌≡◌}
 use Prim.Native.Nat.{◌≤◌, ◌-◌}
-use native.Mathlib.Omega.{arith}
-use borrow.Author.Rules.{rules}
 use Rattle.checked.specs.Loops.{fold_c}
-use Rattle.checked.specs.LoopsLaws.{Done, met, met_none, met_more}
+use Rattle.checked.specs.LoopsLaws.{Done, met}
 use Rattle.integrals.specs.Gauss.{panel_at_c}
-use Rattle.integrals.specs.Laws.{along_done}
 use Rattle.walls.specs.CutWalls.{node_at_c}
 use Rattle.walls.proofs.cut_walls.formula.along.Given as goal
 

@@ -1,4 +1,3 @@
-use borrow.Author.Rules.{rules}
 use Rattle.checked.specs.Laws.{first_assoc}
 use Rattle.walls.specs.CutWalls.{node_at_c}
 use Rattle.walls.proofs.cut_walls.formula.node_at.Goals as goal

@@ -1,4 +1,3 @@
-use borrow.Author.Rules.{rules}
 use Rattle.checked.specs.Laws.{first_assoc, first_zero}
 use Rattle.walls.specs.CutWalls.{wall_c}
 use Rattle.walls.proofs.cut_walls.formula.over.Goals as goal

@@ -1,12 +1,8 @@
 use mathlib.Core.Path.{◌≡◌}
-use Prim.Native.Nat.{◌≤◌, ◌-◌}
 use native.Mathlib.Omega.{arith}
-use borrow.Author.Rules.{rules}
 use Rattle.checked.specs.Laws.{first_assoc}
-use Rattle.checked.specs.Loops.{fold_c}
-use Rattle.checked.specs.LoopsLaws.{Done, met, met_none, met_more}
-use Rattle.integrals.specs.Laws.{alone_c, stretch_done}
-use Rattle.walls.specs.CutWalls.{node_at_c}
+use Rattle.checked.specs.LoopsLaws.{met_none, met_more}
+use Rattle.integrals.specs.Laws.{stretch_done}
 use Rattle.walls.proofs.cut_walls.formula.panel.Goals as goal
 
 pub loop-j-init : goal.loop-j-init
