@@ -11,6 +11,7 @@ use Rattle.vectors.specs.declared.Vec3.{Vec3}
 use Rattle.boxes.specs.declared.Bounds.{Bounds}
 use Rattle.boxes.specs.Boxes.{free, empty, Sound, box_call}
 use Rattle.boxes.specs.Demand3 as Demand3
+use Rattle.boxes.proofs.Demand3 as boxes_proved
 use Rattle.boxes.specs.Demand3.{answer, Met, SameAccepted, SameBox}
 use Rattle.arcs.specs.declared.Arc.{Arc}
 use Rattle.arcs.specs.Sweep.{circle_within, ends_within}
@@ -105,9 +106,9 @@ sound e h = curves_laws.points_sound e.curve e.from e.to
 -- every list of box calls, from every box free of NaN
 pub box_calls_met : (b : Bounds) → T (free b) → (cs : List Call) → CallsMet b cs
 box_calls_met b F cs =
-    let met = Demand3.all_lists handed points sound b F (map edge cs) in
+    let met = boxes_proved.all_lists handed points sound b F (map edge cs) in
     record { leave = run_is b cs; met = met; each = answers_are b cs ∙ (met.each ∙ edges_each cs) }
 
 -- the same accepted edges, in whatever order, however often and by whichever entries, leave the same box
 pub same_box : (b : Bounds) → T (free b) → (cs ds : List Call) → SameAccepted handed points (map edge cs) (map edge ds) → SameBox (run b cs) (run b ds)
-same_box b F cs ds A = rw (run_is b cs, run_is b ds) (Demand3.same_box handed points sound b F (map edge cs) (map edge ds) A)
+same_box b F cs ds A = rw (run_is b cs, run_is b ds) (boxes_proved.same_box handed points sound b F (map edge cs) (map edge ds) A)

@@ -1,7 +1,7 @@
 -- Files of arcs none of which is refused: the line is that of the box that their calls leave,
 -- whichever arc stands first. Assumes nothing.
-use Rattle.std.specs.Prelude.{ℕ, zero, suc, ◌+◌, ◌-◌, ◌*◌, ◌/◌, ◌<◌, ◌≤◌, ◌≡◌, refl, Bool, true, false, not, ◌&&◌, ◌||◌, List, [], ◌∷◌, map, T, eqb, length, drop, Float}
-use Rattle.std.proofs.Common.{mul_comm, mul_assoc, mul_right_comm, add-mul, mul-pos, arith, sym, ◌∙◌, ap₂, subst, eqb→eq, length-drop}
+use Rattle.std.specs.Prelude.{ℕ, zero, suc, ◌+◌, ◌-◌, ◌*◌, ◌/◌, ◌<◌, ◌≤◌, ◌≡◌, refl, true, ◌||◌, List, [], ◌∷◌, map, eqb, length, drop, Float}
+use Rattle.std.proofs.Common.{mul_comm, mul_assoc, add-mul, arith, sym, ◌∙◌, ap₂, subst, eqb→eq, length-drop}
 use Rattle.std.proofs.Math.Nat.{mul-div-mul_right}
 use Rattle.std.proofs.Math.Path.{ap}
 use Rattle.std.specs.Bool.{beq}
@@ -14,14 +14,14 @@ use Rattle.order.specs.Least.{negative}
 use Rattle.order.specs.Extremes.{Same}
 use Rattle.vectors.specs.declared.Vec3.{Vec3}
 use Rattle.boxes.specs.declared.Bounds.{Bounds}
-use Rattle.boxes.specs.Boxes.{Axis, X, Y, Z, at, free, empty}
+use Rattle.boxes.specs.Boxes.{X, Y, Z, empty}
 use Rattle.boxes.proofs.Laws.{empty_free}
-use Rattle.boxes.specs.Demand3.{answer, SameAccepted, SameBox}
+use Rattle.boxes.specs.Demand3.{answer, SameAccepted}
 use Rattle.arcs.specs.Entries.{extend_due}
 use Rattle.box_calls.specs.BoxCalls as calls
 use Rattle.box_calls.specs.BoxCalls.{Call, ByArc, edge, call_due, run, answers, handed, points, box_calls_met}
 use Rattle.decimals.specs.Thousandths.{thousandths, nearest_up, counted}
-use Rattle.edge_lines.specs.Lines.{corner, box_line, empty_line}
+use Rattle.edge_lines.specs.Lines.{corner, box_line}
 use Rattle.edge_records.specs.declared.Edge.{Edge}
 use Rattle.edge_records.specs.declared.Record.{Record}
 use Rattle.edge_records.specs.declared.Record.TheVariants as first
