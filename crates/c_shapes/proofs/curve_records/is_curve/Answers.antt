@@ -1,5 +1,4 @@
 use Rattle.c_shapes.specs.CurveRecords.{is_curve}
-use borrow.Author.Rules.{rules}
 use Rattle.c_shapes.proofs.curve_records.is_curve.Goals as goal
 
 pub returns : goal.returns

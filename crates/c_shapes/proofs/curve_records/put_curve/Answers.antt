@@ -1,5 +1,4 @@
 use Rattle.c_shapes.specs.CurveRecords.{with_curve}
-use borrow.Author.Rules.{rules}
 use Rattle.c_shapes.proofs.curve_records.put_curve.Goals as goal
 
 pub returns-in-Arc : goal.returns-in-Arc

@@ -1,6 +1,5 @@
 use Rattle.c_arrays.specs.Records.{over}
 use Rattle.c_shapes.specs.CurveRecords.{curve_tags}
-use borrow.Author.Rules.{rules}
 use Rattle.c_shapes.proofs.curve_records.put_tags.Goals as goal
 
 pub returns-in-Arc : goal.returns-in-Arc

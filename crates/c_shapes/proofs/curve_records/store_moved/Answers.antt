@@ -1,5 +1,4 @@
 use Rattle.c_shapes.specs.Stores.{stored}
-use borrow.Author.Rules.{rules}
 use Rattle.c_shapes.proofs.curve_records.store_moved.Goals as goal
 
 pub returns-in-Value : goal.returns-in-Value

@@ -1,4 +1,3 @@
-use borrow.Author.Rules.{rules}
 use Rattle.c_arrays.specs.Records.{after, over}
 use Rattle.c_shapes.proofs.piece_records.store_measure.Goals as goal
 

@@ -1,6 +1,5 @@
 use Rattle.c_arrays.specs.Records.{after, over}
 use Rattle.c_shapes.specs.Stores.{stored}
-use borrow.Author.Rules.{rules}
 use Rattle.c_shapes.proofs.piece_records.store_piece.Goals as goal
 
 pub returns-in-Value : goal.returns-in-Value

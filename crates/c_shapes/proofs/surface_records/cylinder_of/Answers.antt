@@ -1,4 +1,3 @@
-use borrow.Author.Rules.{rules}
 use Rattle.c_shapes.proofs.surface_records.cylinder_of.Goals as goal
 
 pub returns : goal.returns

@@ -1,5 +1,4 @@
 use Rattle.c_shapes.specs.SurfaceRecords.{is_surface}
-use borrow.Author.Rules.{rules}
 use Rattle.c_shapes.proofs.surface_records.is_surface.Goals as goal
 
 pub returns : goal.returns

@@ -1,5 +1,4 @@
 use Rattle.c_shapes.specs.SurfaceRecords.{with_surface}
-use borrow.Author.Rules.{rules}
 use Rattle.c_shapes.proofs.surface_records.put_surface.Goals as goal
 
 pub returns-in-Plane : goal.returns-in-Plane

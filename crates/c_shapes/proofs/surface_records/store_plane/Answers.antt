@@ -1,6 +1,5 @@
 use Rattle.c_arrays.specs.Records.{after}
 use Rattle.c_arrays.specs.TraceRecords.{some_due}
-use borrow.Author.Rules.{rules}
 use Rattle.c_shapes.proofs.surface_records.store_plane.Goals as goal
 
 pub returns-in-Value : goal.returns-in-Value

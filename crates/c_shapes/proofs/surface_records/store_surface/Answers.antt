@@ -1,5 +1,4 @@
 use Rattle.c_shapes.specs.Stores.{stored}
-use borrow.Author.Rules.{rules}
 use Rattle.c_shapes.proofs.surface_records.store_surface.Goals as goal
 
 pub returns-in-Value : goal.returns-in-Value

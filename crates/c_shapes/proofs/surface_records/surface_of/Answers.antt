@@ -1,5 +1,4 @@
 use borrow.Author.Tests.{eq-eqb, ne_eqb}
-use borrow.Author.Rules.{rules}
 use Rattle.c_shapes.proofs.surface_records.surface_of.Goals as goal
 
 pub returns-then-kind-eq0 : goal.returns-then-kind-eq0

@@ -8,13 +8,13 @@ pub returns-then-r-eq0 : goal.returns-then-r-eq0
 returns-then-r-eq0 c =
     let known = sym c.is_curve.ensures ∙ c.if-is_curve.true in
     let d = simp (c.curve_of-e.ensures, c.vec3_of-u.ensures, c.vec3_of-v.ensures) at c.write_inner_points-w.ensures in
-    simp known (sym c.if-r-eq0.true ∙ d.number, (d.rest, counted _ _ _ _ d.number c.if-r-eq0.true d.part))
+    simp known (record { number = sym c.if-r-eq0.true ∙ d.number; row = d.rest; written = counted _ _ _ _ d.number c.if-r-eq0.true d.part })
 
 pub returns-then-is_curve : goal.returns-then-is_curve
 returns-then-is_curve c =
     let known = sym c.is_curve.ensures ∙ c.if-is_curve.true in
     let d = simp (c.curve_of-e.ensures, c.vec3_of-u.ensures, c.vec3_of-v.ensures) at c.write_inner_points-w.ensures in
-    simp known (d.number, (d.rest, uncounted _ _ _ d.number c.if-r-eq0.false))
+    simp known (record { number = d.number; row = d.rest; written = uncounted _ _ _ d.number c.if-r-eq0.false })
 
 pub returns : goal.returns
 unfolding after_count
