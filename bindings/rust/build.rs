@@ -164,6 +164,10 @@ impl Sources {
             return Ok(file.clone());
         }
         let place = env::temp_dir().join(format!("juniperreef-{}", process::id()));
+        // What a build that was ended left there is no part of this one.
+        if place.exists() {
+            fs::remove_dir_all(&place)?;
+        }
         let (began, folder, top) = (Instant::now(), place.display(), self.top.display());
         announce(&format!(
             "no archive of the library is here: `rt lib` proves and builds one in {folder}, which \
