@@ -21,10 +21,8 @@ fn hex(line: &[u8], at: usize) -> u64
     ensures { result ≡ Lines.spelt 16 line.now at 16 }
 {
     let mut n = 0;
-    let mut i = 0;
-    while i < 16 {
+    for i in 0..16 {
         n = n * 16 + digit(line[at + i]);
-        i += 1;
     }
     n
 }

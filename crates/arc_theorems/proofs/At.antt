@@ -24,8 +24,8 @@ use Rattle.arcs.specs.declared.Arc.{Arc}
 use Rattle.arcs.specs.Entries.{at_due}
 use Rattle.arcs.specs.Sweep.{circle_within}
 use Rattle.rows.specs.CirclesLaws.{rim_refusal}
-use Rattle.arcs.specs.Points.{angle_within, radius_vector_c, turned_c, at_c}
-use Rattle.arcs.specs.PointsLaws.{spoke_refusal, rim_of, turned_refusal, turned_value}
+use Rattle.arcs.specs.Points.{angle_within, radius_vector_c, turned_c, at_c, rim_of}
+use Rattle.arcs.specs.PointsLaws.{spoke_refusal, turned_refusal, turned_value}
 use Rattle.float_bounds.proofs.Intervals.{le_fabs, finite_number}
 use Rattle.float_bounds.proofs.Powers.{pow_div, within_pow}
 use Rattle.float_bounds.specs.SquareRoots.{least_root}

@@ -29,14 +29,15 @@ use Rattle.vectors.specs.declared.Vec3.{Vec3}
 use Rattle.chord_counts.specs.Chords.{fewest, most, per_turn_c}
 use Rattle.chord_counts.specs.Counts.{MOST, limited_c, count_c}
 use Rattle.chord_counts.specs.Laws.{at_most}
-use Rattle.rows.specs.Rows.{up_to, fits, all_refusal, items_due}
+use Rattle.rows.specs.Rows.{up_to, fits}
+use Rattle.rows.specs.Laws.{up_to_same}
 use Rattle.rows.specs.CirclesLaws.{rim_at_refusal}
 use Rattle.arcs.specs.Sweep.{ends_within, sweep_c}
-use Rattle.arcs.specs.Points.{radius_vector_c}
-use Rattle.arcs.specs.PointsLaws.{rim_of, turned_refusal}
+use Rattle.arcs.specs.Points.{radius_vector_c, rim_of}
+use Rattle.arcs.specs.PointsLaws.{turned_refusal}
 use Rattle.arcs.specs.declared.chords.Cut.{Cut}
-use Rattle.arcs.specs.Chords.{chord_within, cut_c, inners_due}
-use Rattle.arcs.specs.ChordsLaws.{cut_refusal, rimmed, inners_are}
+use Rattle.arcs.specs.Chords.{chord_within, cut_c, inner_c, inners_due}
+use Rattle.arcs.specs.ChordsLaws.{cut_refusal, rimmed, own_refusal, same_value}
 use Rattle.arcs.specs.declared.Arc.{Arc}
 use Rattle.arcs.specs.Entries.{inner_points_due}
 use Rattle.float_bounds.specs.Parts.{nought, plus, minus}
@@ -208,26 +209,33 @@ module _ (center axis : Vec3) (radius : Float) (from to : Vec3) (chord : Float) 
       ∙ sym (turned_refusal center axis (radius_vector_c center axis radius from).value t)
       ∙ turned_accepted center axis radius from t H.center H.axis H.radius H.start (angle_within_lem turn cut.chords k turned (omega arith) chords_most (omega arith)) l
 
-  all_accepted : T (lt zero (off_length center axis from)) → (m : ℕ) → m ≤ points → (up_to rim m).refusal ≡ 0
+  abbrev inner : ℕ → Checked Vec3
+  inner = inner_c center axis radius from cut
+
+  all_accepted : T (lt zero (off_length center axis from)) → (m : ℕ) → m ≤ points → (up_to inner m).refusal ≡ 0
   unfolding up_to
   all_accepted l N.zero h = refl
-  all_accepted l (suc m) h = none _ _ (all_accepted l m (omega arith)) (first_zero (rim (suc m)).refusal ∙ rim_accepted l (suc m) (omega arith) h)
+  all_accepted l (suc m) h =
+      let spoke = spoke_found center axis radius from H.center H.axis H.radius H.start l in
+      none _ _ (all_accepted l m (omega arith)) (first_zero (inner (suc m)).refusal ∙ own_refusal center axis radius from cut (suc m) ∙ none _ _ spoke (rim_accepted l (suc m) (omega arith) h))
 
-  refusal_is : (m : ℕ) → m ≤ points → all_refusal (radius_vector_c center axis radius from).refusal rim m ≡ cond (is_none m || lt zero (off_length center axis from)) 0 NOT_FINITE
-  unfolding all_refusal
-  refusal_is N.zero h = refl
+  -- from the first point on
+  all_missed : lt zero (off_length center axis from) ≡ false → (m : ℕ) → (up_to inner (suc m)).refusal ≡ NOT_FINITE
+  unfolding up_to first
+  all_missed e N.zero = first_zero (inner 1).refusal ∙ own_refusal center axis radius from cut 1 ∙ rw (spoke_missed center axis radius from H.center H.axis H.radius H.start e) refl
+  all_missed e (suc m) = rw (all_missed e m) refl
+
+  refusal_is : (m : ℕ) → m ≤ points → (up_to inner m).refusal ≡ cond (is_none m || lt zero (off_length center axis from)) 0 NOT_FINITE
+  refusal_is N.zero h = unfold up_to in refl
   refusal_is (suc m) h = by (lt zero (off_length center axis from)) refl
     where
-      by : (b : Bool) → lt zero (off_length center axis from) ≡ b → first (radius_vector_c center axis radius from).refusal (up_to rim (suc m)).refusal ≡ cond b 0 NOT_FINITE
-      by true e =
-          let l : T (lt zero (off_length center axis from)) = subst T (sym e) tt in
-          none _ _ (spoke_found center axis radius from H.center H.axis H.radius H.start l) (all_accepted l (suc m) h)
-      by false e = ap (λ (r : ℕ). first r (up_to rim (suc m)).refusal) (spoke_missed center axis radius from H.center H.axis H.radius H.start e) ∙ (unfold first in refl)
+      by : (b : Bool) → lt zero (off_length center axis from) ≡ b → (up_to inner (suc m)).refusal ≡ cond b 0 NOT_FINITE
+      by true e = all_accepted (subst T (sym e) tt) (suc m) h
+      by false e = all_missed e m
 
   settled_is : (room : ℕ) → inners_due center axis radius from cut room ≡ fits room points (cond (is_none points || lt zero (off_length center axis from)) (due (up_to rim points).value) (refused NOT_FINITE))
-  settled_is room =
-      inners_are center axis radius from cut room
-      ∙ (unfold items_due in ap (λ (d : Due (List Vec3)). fits room points d) (ap (λ (r : ℕ). settled r (up_to rim points).value) (refusal_is points (omega arith)) ∙ by (is_none points || lt zero (off_length center axis from))))
+  unfolding inners_due
+  settled_is room = ap (λ (d : Due (List Vec3)). fits room points d) (rw (refusal_is points (omega arith), up_to_same inner rim (same_value center axis radius from cut) points) (by (is_none points || lt zero (off_length center axis from))))
     where
       by : (b : Bool) → settled (cond b 0 NOT_FINITE) (up_to rim points).value ≡ cond b (due (up_to rim points).value) (refused NOT_FINITE)
       by true = settled_none (up_to rim points).value

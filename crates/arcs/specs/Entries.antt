@@ -2,7 +2,7 @@
 -- worked out.
 use Rattle.std.specs.Prelude.{ℕ, List, Float}
 use Rattle.checked.specs.Refusals.{OUT_OF_RANGE}
-use Rattle.checked.specs.Checked.{Checked, Due, due, refused, answered}
+use Rattle.checked.specs.Checked.{Checked, Due, answered}
 use Rattle.checked.specs.Answers.{and_then}
 use Rattle.checked.specs.Tests.{fails, ◌or◌, passing, chord_test}
 use Rattle.vectors.specs.declared.Vec3.{Vec3}
@@ -13,14 +13,7 @@ use Rattle.arcs.specs.Points.{angle_within, at_c}
 use Rattle.arcs.specs.Extremes.{points_c}
 use Rattle.arcs.specs.Chords.{chord_within, cut_c, inners_due}
 use Rattle.arcs.specs.declared.Arc.{Arc}
-use Rattle.arcs.specs.declared.ArcAnswer.{ArcAnswer}
-use Rattle.arcs.specs.declared.ArcAnswer.TheVariants as answer
 use Rattle.arcs.specs.Arcs.{reversed_c}
-
--- what the code's answer says
-abbrev pub arc_due : ArcAnswer → Due Arc
-arc_due (answer.Value a) = due a
-arc_due (answer.Refused n) = refused n
 
 -- `Arc::reversed`
 unfoldable pub reversed_due : Arc → Due Arc

@@ -4,15 +4,14 @@ use Rattle.std.proofs.Common.{sym, ◌∙◌}
 use Rattle.checked.specs.Checked.{first, nine}
 use Rattle.checked.specs.Laws.{rules as checked_rules}
 use Rattle.vectors.specs.declared.Vec3.{Vec3}
-use Rattle.vectors.specs.Vectors.{nines, minus_c, cross_c}
+use Rattle.vectors.specs.Vectors.{nines, minus_c}
 use Rattle.vectors.specs.Laws.{rules as vectors_rules}
 use Rattle.directions.specs.Directions.{length_c, across_c}
 use Rattle.directions.specs.Laws.{rules as directions_rules}
 use Rattle.libm.specs.Sincos.{sincos_c}
-use Rattle.rows.specs.declared.circles.Circle.{Circle}
 use Rattle.rows.specs.Circles.{circle_c}
 use Rattle.rows.specs.CirclesLaws.{rim_refusal}
-use Rattle.arcs.specs.Points.{radius_vector_c, turned_c}
+use Rattle.arcs.specs.Points.{radius_vector_c, rim_of, turned_c}
 
 ruleset all = (checked_rules, vectors_rules, directions_rules)
 
@@ -21,9 +20,6 @@ unfolding radius_vector_c
 spoke_refusal center axis radius from = simp all
 
 -- ---- the rim of a circle, from the spoke d
-abbrev pub rim_of : Vec3 → Vec3 → Vec3 → Circle
-rim_of center axis d = record { center = center; start = d; quarter = (cross_c axis d).value }
-
 -- the sine's and cosine's refusal, then the point's
 turned_notes : (center axis d : Vec3) (t : Float) → (turned_c center axis d t).refusal ≡ first (sincos_c t).refusal (nines (turned_c center axis d t).value)
 unfolding turned_c

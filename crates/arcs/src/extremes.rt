@@ -1,15 +1,15 @@
 // The box of an arc, on numbers of any size: its ends, then those of its circle's extreme points
-// that lie on it. Nothing depends on the box: it is carried along, and the refusal met first beside
-// it.
+// that lie on it. Nothing depends on the box, which is carried along.
 ghost use Rattle.std.specs.Prelude.{◌≡◌, Bool, cond, [], ◌∷◌};
-ghost use Rattle.checked.specs.Checked.{first};
-ghost use Rattle.boxes.specs.Boxes.{widened_by};
+ghost use Rattle.checked.specs.Told.{told};
+ghost use Rattle.checked.specs.Checked.{answered};
+ghost use Rattle.boxes.specs.Boxes.{widened_by, widened_c};
 ghost use Rattle.arcs.specs.Sweep.{sweep_from_c};
 ghost use Rattle.arcs.specs.Extremes.{side_c, taken_c, both_c, extremes_c, points_c};
 
 use crate::sweep::sweep_from;
-use boxes::{Bounds, CheckedBounds};
-use checked::{earlier, note};
+use boxes::Bounds;
+use checked::{Refusal, finite};
 use directions::formula::{across, length};
 use vectors::Vec3;
 use vectors::formula::{minus, plus, times};
@@ -35,18 +35,12 @@ fn with_candidate(
     u: Vec3,
     turn: f64,
     p: Vec3,
-    b: CheckedBounds,
-) -> CheckedBounds
-    ensures refusal { result.refusal ≡ first b.refusal (taken_c (sweep_from_c center axis u) turn p).refusal }
-    ensures value { result.value ≡ widened_by b.value (taken_c (sweep_from_c center axis u) turn p).value }
+    b: Bounds,
+) -> Result<Bounds, Refusal>
+    ensures { told result ≡ answered (widened_c b (taken_c (sweep_from_c center axis u) turn p)) }
 {
-    let s = sweep_from(center, axis, u, p);
-    let before = b.value;
-    let after = widened_where(s.value < turn, before, p);
-    CheckedBounds {
-        refusal: earlier(b.refusal, s.refusal),
-        value: after,
-    }
+    let s = sweep_from(center, axis, u, p)?;
+    Ok(widened_where(s < turn, b, p))
 }
 
 // A candidate's refusal is that of its sweep, which is finite only where the candidate is.
@@ -58,21 +52,14 @@ fn with_both(
     turn: f64,
     w: Vec3,
     len: f64,
-    b: CheckedBounds,
-) -> CheckedBounds
-    ensures refusal { result.refusal ≡ first b.refusal (both_c center radius (sweep_from_c center axis u) turn w len).refusal }
-    ensures value { result.value ≡ widened_by b.value (both_c center radius (sweep_from_c center axis u) turn w len).value }
+    b: Bounds,
+) -> Result<Bounds, Refusal>
+    ensures { told result ≡ answered (widened_c b (both_c center radius (sweep_from_c center axis u) turn w len)) }
 {
     let p = side(center, radius, w, len, 1.0);
     let q = side(center, radius, w, len, -1.0);
-    with_candidate(
-        center,
-        axis,
-        u,
-        turn,
-        q,
-        with_candidate(center, axis, u, turn, p, b),
-    )
+    let b = with_candidate(center, axis, u, turn, p, b)?;
+    with_candidate(center, axis, u, turn, q, b)
 }
 
 fn with_extremes(
@@ -82,47 +69,34 @@ fn with_extremes(
     u: Vec3,
     turn: f64,
     e: Vec3,
-    b: CheckedBounds,
-) -> CheckedBounds
-    ensures refusal { result.refusal ≡ first b.refusal (extremes_c center axis radius (sweep_from_c center axis u) turn e).refusal }
-    ensures value { result.value ≡ widened_by b.value (extremes_c center axis radius (sweep_from_c center axis u) turn e).value }
+    b: Bounds,
+) -> Result<Bounds, Refusal>
+    ensures { told result ≡ answered (widened_c b (extremes_c center axis radius (sweep_from_c center axis u) turn e)) }
 {
     let w = across(axis, across(axis, e));
-    let len = length(w);
-    let before = b.value;
-    let noted = CheckedBounds {
-        refusal: note(b.refusal, len),
-        value: before,
-    };
+    let len = finite(length(w))?;
     if len > 0.0 {
-        with_both(center, axis, radius, u, turn, w, len, noted)
+        with_both(center, axis, radius, u, turn, w, len, b)
     } else {
-        noted
+        Ok(b)
     }
 }
 
-// The box widened by the arc of a circle from one point to another, after what was met on the way
-// to the box.
+// The box widened by the arc of a circle from one point to another.
 pub fn extended(
     center: Vec3,
     axis: Vec3,
     radius: f64,
     from: Vec3,
     to: Vec3,
-    b: CheckedBounds,
-) -> CheckedBounds
-    ensures refusal { result.refusal ≡ first b.refusal (points_c center axis radius from to).refusal }
-    ensures value { result.value ≡ widened_by b.value (points_c center axis radius from to).value }
+    b: Bounds,
+) -> Result<Bounds, Refusal>
+    ensures { told result ≡ answered (widened_c b (points_c center axis radius from to)) }
 {
     let u = minus(from, center);
-    let s = sweep_from(center, axis, u, to);
-    let before = b.value;
-    let held = before.widened(from).widened(to);
-    let ends = CheckedBounds {
-        refusal: earlier(b.refusal, s.refusal),
-        value: held,
-    };
-    let x = with_extremes(center, axis, radius, u, s.value, Vec3::ALONG_X, ends);
-    let y = with_extremes(center, axis, radius, u, s.value, Vec3::ALONG_Y, x);
-    with_extremes(center, axis, radius, u, s.value, Vec3::ALONG_Z, y)
+    let turn = sweep_from(center, axis, u, to)?;
+    let ends = b.widened(from).widened(to);
+    let x = with_extremes(center, axis, radius, u, turn, Vec3::ALONG_X, ends)?;
+    let y = with_extremes(center, axis, radius, u, turn, Vec3::ALONG_Y, x)?;
+    with_extremes(center, axis, radius, u, turn, Vec3::ALONG_Z, y)
 }

@@ -1,23 +1,17 @@
 // An arc's formulas on numbers of any size; those of its sweep, points and box are in the crates
 // below, on its parts.
 ghost use Rattle.std.specs.Prelude.{◌≡◌};
+ghost use Rattle.checked.specs.Checked.{answered};
+ghost use Rattle.checked.specs.Told.{told};
 ghost use Rattle.arcs.specs.Arcs.{reversed_c};
 
-use crate::{Arc, CheckedArc};
-use vectors::formula::{neg, noted};
+use crate::Arc;
+use checked::Refusal;
+use vectors::formula::{finite3, neg};
 
-pub fn reversed(arc: Arc) -> CheckedArc
-    ensures refusal { result.refusal ≡ (reversed_c arc).refusal }
-    ensures value { result.value ≡ (reversed_c arc).value }
+pub fn reversed(arc: Arc) -> Result<Arc, Refusal>
+    ensures { told result ≡ answered (reversed_c arc) }
 {
-    let center = arc.center;
-    let axis = neg(arc.axis);
-    CheckedArc {
-        refusal: noted(axis, 0),
-        value: Arc {
-            center: center,
-            axis: axis,
-            radius: arc.radius,
-        },
-    }
+    let axis = finite3(neg(arc.axis))?;
+    Ok(Arc { axis, ..arc })
 }

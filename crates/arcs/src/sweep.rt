@@ -1,9 +1,11 @@
 // How far a point is turned about an axis, on numbers of any size: counterclockwise about `axis`,
 // around `center`.
 ghost use Rattle.std.specs.Prelude.{◌≡◌};
+ghost use Rattle.checked.specs.Checked.{answered};
+ghost use Rattle.checked.specs.Told.{told};
 ghost use Rattle.arcs.specs.Sweep.{circle_within, ends_within, sweep_from_c, sweep_c};
 
-use checked::{CheckedNumber, is_within, note};
+use checked::{Refusal, finite, is_within};
 use profile_arcs::angles::{ahead, angle};
 use vectors::formula::{cross, dot, minus};
 use vectors::{Vec3, is_within3};
@@ -23,22 +25,16 @@ pub fn ends_within(center: Vec3, axis: Vec3, radius: f64, from: Vec3, to: Vec3) 
 }
 
 // The angle turned until the direction of p, from a start that lies at u from the centre.
-pub fn sweep_from(center: Vec3, axis: Vec3, u: Vec3, p: Vec3) -> CheckedNumber
-    ensures refusal { result.refusal ≡ (sweep_from_c center axis u p).refusal }
-    ensures value { result.value ≡ (sweep_from_c center axis u p).value }
+pub fn sweep_from(center: Vec3, axis: Vec3, u: Vec3, p: Vec3) -> Result<f64, Refusal>
+    ensures { told result ≡ answered (sweep_from_c center axis u p) }
 {
     let v = minus(p, center);
-    let t = angle(dot(axis, cross(u, v)), dot(u, v));
-    let a = ahead(t.value);
-    CheckedNumber {
-        refusal: note(t.refusal, a),
-        value: a,
-    }
+    let t = angle(dot(axis, cross(u, v)), dot(u, v))?;
+    finite(ahead(t))
 }
 
-pub fn sweep(center: Vec3, axis: Vec3, from: Vec3, to: Vec3) -> CheckedNumber
-    ensures refusal { result.refusal ≡ (sweep_c center axis from to).refusal }
-    ensures value { result.value ≡ (sweep_c center axis from to).value }
+pub fn sweep(center: Vec3, axis: Vec3, from: Vec3, to: Vec3) -> Result<f64, Refusal>
+    ensures { told result ≡ answered (sweep_c center axis from to) }
 {
     sweep_from(center, axis, minus(from, center), to)
 }

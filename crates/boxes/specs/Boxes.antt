@@ -7,13 +7,9 @@ use Rattle.order.specs.Least.{least, greatest}
 use Rattle.vectors.specs.declared.Vec3.{Vec3}
 use Rattle.vectors.specs.Vectors.{is_finite3}
 use Rattle.checked.specs.Refusals.{BAD_BOX_OR_SUMS}
-use Rattle.checked.specs.Checked.{Checked, ◌>>=◌, given, Due, due, refused, answered}
-use Rattle.checked.specs.Answers.{number_of, after}
+use Rattle.checked.specs.Checked.{Checked, ◌>>=◌, given, Due, answered}
 use Rattle.checked.specs.Tests.{fails, ◌or◌, passing}
 use Rattle.boxes.specs.declared.Bounds.{Bounds}
-use Rattle.boxes.specs.declared.BoxOutcome.{BoxOutcome}
-use Rattle.boxes.specs.declared.BoxAnswer.{BoxAnswer}
-use Rattle.boxes.specs.declared.BoxAnswer.TheVariants as widened_variants
 
 -- a coordinate
 pub data Axis : Type 0 where
@@ -40,6 +36,10 @@ widened b p = record { low = lesser b.low p; high = greater b.high p }
 unfoldable pub widened_by : Bounds → List Vec3 → Bounds
 widened_by b [] = b
 widened_by b (p ∷ ps) = widened_by (widened b p) ps
+
+-- by points as they are worked out
+abbrev pub widened_c : Bounds → Checked (List Vec3) → Checked Bounds
+widened_c b points = record { refusal = points.refusal; value = widened_by b points.value }
 
 -- no NaN among the three
 unfoldable pub numbers : Vec3 → Bool
@@ -74,11 +74,6 @@ abbrev pub Sound : Checked (List Vec3) → Type 0
 Sound c = c.refusal ≡ 0 → AllFinite c.value
 
 -- ---- box calls
--- what the code's answer says
-abbrev pub widened_due : BoxAnswer → Due Bounds
-widened_due (widened_variants.Box b) = due b
-widened_due (widened_variants.Refused n) = refused n
-
 -- A box call. handed: the number of the test that what was handed in with the edge fails first; points: its ends and extreme points, as they are
 -- worked out. The tests come first, then that of the box; then the points are worked out, whatever the box, and widen it.
 unfoldable pub box_call : ℕ → Checked (List Vec3) → Bounds → Due Bounds
@@ -88,7 +83,3 @@ box_call handed points b =
     (do
       ps ← points
       given (widened_by b ps)))
-
--- what a call on a lent box leaves of it, and the number that it answers
-abbrev pub outcome : Bounds → Due Bounds → BoxOutcome
-outcome b d = record { bounds = after b d; number = number_of d }

@@ -1,8 +1,7 @@
-// Boxes of edges: their widening by points, and the answer of a box call.
+// Boxes of edges, and their widening by points.
 #![tactic(auto)]
 
 ghost use Rattle.std.specs.Prelude.{◌≡◌};
-ghost use Rattle.checked.specs.Checked.{settled};
 ghost use Rattle.boxes.specs.Boxes as Boxes;
 
 use order::{greatest, least};
@@ -13,27 +12,6 @@ use vectors::Vec3;
 pub struct Bounds {
     pub low: Vec3,
     pub high: Vec3,
-}
-
-// A box, with the refusal that its computation met first; 0 is none.
-#[derive(Clone, Copy)]
-pub struct CheckedBounds {
-    pub value: Bounds,
-    pub refusal: u8,
-}
-
-// The answer of a box call.
-#[derive(Clone, Copy)]
-pub enum BoxAnswer {
-    Box(Bounds),
-    Refused(u8),
-}
-
-// What a call leaves of the box that was lent, and the number that it answers: 0 where the edge is accepted.
-#[derive(Clone, Copy)]
-pub struct BoxOutcome {
-    pub bounds: Bounds,
-    pub number: u8,
 }
 
 // The lesser of two in each coordinate.
@@ -63,35 +41,6 @@ fn are_numbers(v: Vec3) -> bool
     ensures { result ≡ Boxes.numbers v }
 {
     (v.x == v.x) & ((v.y == v.y) & (v.z == v.z))
-}
-
-// The box, or its refusal where there is one.
-pub fn settle(c: CheckedBounds) -> BoxAnswer
-    ensures { Boxes.widened_due result ≡ settled c.refusal c.value }
-{
-    let r = c.refusal;
-    let b = c.value;
-    if r == 0 {
-        BoxAnswer::Box(b)
-    } else {
-        BoxAnswer::Refused(r)
-    }
-}
-
-// What is left of the box b after a call with this answer: b itself where it was refused.
-pub fn after(b: Bounds, answer: BoxAnswer) -> BoxOutcome
-    ensures { result ≡ Boxes.outcome b (Boxes.widened_due answer) }
-{
-    match answer {
-        BoxAnswer::Box(c) => BoxOutcome {
-            bounds: c,
-            number: 0,
-        },
-        BoxAnswer::Refused(n) => BoxOutcome {
-            bounds: b,
-            number: n,
-        },
-    }
 }
 
 impl Bounds {

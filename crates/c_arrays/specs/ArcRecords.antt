@@ -1,5 +1,5 @@
 -- Arcs, motions and boxes as arrays of numbers.
-use Rattle.std.specs.Prelude.{ℕ, Bool, cond, List, [], ◌∷◌, eqb, get_or, set, length, Float}
+use Rattle.std.specs.Prelude.{ℕ, ◌*◌, Bool, cond, List, [], ◌∷◌, eqb, get_or, set, length, Float}
 use Rattle.std.specs.Float.{nan}
 use Rattle.motions.specs.declared.Rigid.{Rigid}
 use Rattle.profile_arcs.specs.declared.ProfileArc.{ProfileArc}
@@ -42,6 +42,10 @@ of_rigid m =
 
 abbrev pub of_bounds : Bounds → List Float
 of_bounds b = b.low.x ∷ b.low.y ∷ b.low.z ∷ b.high.x ∷ b.high.y ∷ b.high.z ∷ []
+
+-- how many numbers so many points are
+abbrev pub of_drawn : ℕ → List ℕ
+of_drawn points = 3 * points ∷ []
 
 -- how many numbers were written to a row; as before where that is refused
 unfoldable pub after_count : List ℕ → Due (List Vec3) → List ℕ

@@ -1,9 +1,8 @@
 -- How records and answers pass to a caller in another language: as arrays of numbers.
-use Rattle.std.specs.Prelude.{ℕ, suc, ◌+◌, Bool, cond, List, [], ◌∷◌, get_or, set, Float}
+use Rattle.std.specs.Prelude.{ℕ, suc, ◌+◌, Bool, true, false, cond, Option, Some, None, List, [], ◌∷◌, get_or, set, Float}
 use Rattle.std.specs.Float.{nan}
-use Rattle.checked.specs.Checked.{Due, due, refused, settled}
+use Rattle.checked.specs.Checked.{Due, due, refused}
 use Rattle.libm.specs.declared.sincos.Sines.{Sines}
-use Rattle.libm.specs.declared.sincos.CheckedSines.{CheckedSines}
 use Rattle.vectors.specs.declared.Vec2.{Vec2}
 use Rattle.vectors.specs.declared.Vec3.{Vec3}
 
@@ -41,10 +40,18 @@ unfoldable pub over : {A : Type 0} → List A → ℕ → List A → List A
 over l k [] = l
 over l k (x ∷ xs) = over (set l k x) (suc k) xs
 
--- what an array holds after the call: the result's numbers from its start, or what it held before
-unfoldable pub after : {A B : Type 0} → (A → List B) → List B → Due A → List B
-after numbers l (due a) = over l 0 (numbers a)
-after numbers l (refused n) = l
+-- a record's numbers from an array's start on
+abbrev pub written : {A B : Type 0} → (A → List B) → List B → A → List B
+written numbers l a = over l 0 (numbers a)
+
+-- what an array holds after the call: the result put over what it held, or what it held before
+unfoldable pub stored : {A B : Type 0} → (List B → A → List B) → List B → Due A → List B
+stored put l (due a) = put l a
+stored put l (refused n) = l
+
+-- the same where the result's numbers stand from the array's start on
+abbrev pub after : {A B : Type 0} → (A → List B) → List B → Due A → List B
+after numbers = stored (written numbers)
 
 -- the answer to a tag that nobody knows, which is tried before everything else, and the answer where there is no result to
 -- give; neither is a refusal
@@ -58,6 +65,7 @@ NONE = 255
 abbrev pub tag_due : {A : Type 0} → Bool → Due A → Due A
 tag_due known d = cond known d (refused UNKNOWN_TAG)
 
--- a sine and a cosine, or their refusal
-abbrev pub sines_due : CheckedSines → Due Sines
-sines_due a = settled a.refusal (record { sin = a.sin; cos = a.cos })
+-- a record by its tags, where these are known
+unfoldable pub known : {A : Type 0} → Bool → A → Option A
+known true a = Some a
+known false a = None

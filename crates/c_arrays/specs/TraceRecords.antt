@@ -1,5 +1,5 @@
 -- Waves, meets and traces as arrays of numbers. A tag says which of the numbers are read.
-use Rattle.std.specs.Prelude.{ℕ, ◌+◌, Bool, cond, ◌&&◌, List, [], ◌∷◌, eqb, leb, get_or, Float}
+use Rattle.std.specs.Prelude.{ℕ, ◌+◌, Bool, cond, ◌&&◌, List, [], ◌∷◌, eqb, leb, get_or, Float, Option, Some, None}
 use Rattle.std.specs.Float.{nan}
 use Rattle.checked.specs.Checked.{Due, due, refused}
 use Rattle.meets.specs.declared.generatrix.Jet as reaches
@@ -11,7 +11,6 @@ use Rattle.meets.specs.declared.Turn.TheVariants as turn
 use Rattle.meets.specs.declared.Meet.{Meet}
 use Rattle.traces.specs.declared.Trace.{Trace}
 use Rattle.traces.specs.declared.Trace.TheVariants as trace
-use Rattle.traces.specs.Traces.{Optional, some, none}
 use Rattle.c_arrays.specs.Records.{vec3_at, NONE}
 
 -- ---- records from arrays, from place k on
@@ -67,7 +66,7 @@ abbrev pub of_points : reaches.Jet → List Float
 of_points j = j.q.x ∷ j.q.y ∷ j.q.z ∷ j.q1.x ∷ j.q1.y ∷ j.q1.z ∷ j.q2.x ∷ j.q2.y ∷ j.q2.z ∷ []
 
 -- none is an answer with a number of its own, and writes nothing
-unfoldable pub some_due : {A : Type 0} → Due (Optional A) → Due A
-some_due (due (some a)) = due a
-some_due (due none) = refused NONE
+unfoldable pub some_due : {A : Type 0} → Due (Option A) → Due A
+some_due (due (Some a)) = due a
+some_due (due None) = refused NONE
 some_due (refused n) = refused n

@@ -1,15 +1,11 @@
-// Records as arrays of numbers, and answers stored where they are due: cones, frames, sums.
+// Records as arrays of numbers: cones, frames, sums.
 ghost use Rattle.std.specs.Prelude.{◌≡◌, ◌≤◌, length};
-ghost use Rattle.cones.specs.Entries.{frame_answer_due};
-ghost use Rattle.integrals.specs.Sums.{added_due};
-ghost use Rattle.checked.specs.Answers.{number_of};
-ghost use Rattle.c_arrays.specs.Records.{over, after};
-ghost use Rattle.c_arrays.specs.FaceRecords.{cone, frame, sums, of_cone, of_frame, of_sums};
+ghost use Rattle.c_arrays.specs.Records.{over};
+ghost use Rattle.c_arrays.specs.FaceRecords.{cone, frame, sums, of_cone};
 
 use crate::vec3_at;
-use cones::{Cone, Frame, FrameAnswer};
-use integrals::{Integrals, SumsAnswer, SurfaceIntegrals};
-use vectors::Vec3;
+use cones::{Cone, Frame};
+use integrals::{Integrals, SurfaceIntegrals};
 
 // The cone whose eight numbers an array begins with.
 pub fn cone_at(a: &[f64], convex: bool) -> Cone
@@ -21,7 +17,7 @@ pub fn cone_at(a: &[f64], convex: bool) -> Cone
         axis: vec3_at(a, 3),
         radius: a[6],
         slope: a[7],
-        convex: convex,
+        convex,
     }
 }
 
@@ -50,26 +46,10 @@ pub fn frame_of(a: &[f64; 12]) -> Frame
     ensures { result ≡ frame a.now }
 {
     Frame {
-        axis: Vec3 {
-            x: a[0],
-            y: a[1],
-            z: a[2],
-        },
-        origin: Vec3 {
-            x: a[3],
-            y: a[4],
-            z: a[5],
-        },
-        e1: Vec3 {
-            x: a[6],
-            y: a[7],
-            z: a[8],
-        },
-        e2: Vec3 {
-            x: a[9],
-            y: a[10],
-            z: a[11],
-        },
+        axis: vec3_at(a, 0),
+        origin: vec3_at(a, 3),
+        e1: vec3_at(a, 6),
+        e2: vec3_at(a, 9),
     }
 }
 
@@ -83,49 +63,5 @@ pub fn sums_of(a: &[f64; 8]) -> Integrals
             area: a[4],
             area_vector: vec3_at(a, 5),
         },
-    }
-}
-
-pub fn store_frame(a: FrameAnswer, out: &mut [f64; 12]) -> u32
-    ensures number { result ≡ number_of (frame_answer_due a) }
-    ensures out { out.new ≡ after of_frame out.old (frame_answer_due a) }
-{
-    match a {
-        FrameAnswer::Value(f) => {
-            out[0] = f.axis.x;
-            out[1] = f.axis.y;
-            out[2] = f.axis.z;
-            out[3] = f.origin.x;
-            out[4] = f.origin.y;
-            out[5] = f.origin.z;
-            out[6] = f.e1.x;
-            out[7] = f.e1.y;
-            out[8] = f.e1.z;
-            out[9] = f.e2.x;
-            out[10] = f.e2.y;
-            out[11] = f.e2.z;
-            0
-        }
-        FrameAnswer::Refused(r) => r as u32,
-    }
-}
-
-pub fn store_sums(a: SumsAnswer, out: &mut [f64; 8]) -> u32
-    ensures number { result ≡ number_of (added_due a) }
-    ensures out { out.new ≡ after of_sums out.old (added_due a) }
-{
-    match a {
-        SumsAnswer::Sums(s) => {
-            out[0] = s.surface.six_v;
-            out[1] = s.surface.moment.x;
-            out[2] = s.surface.moment.y;
-            out[3] = s.surface.moment.z;
-            out[4] = s.surface.area;
-            out[5] = s.surface.area_vector.x;
-            out[6] = s.surface.area_vector.y;
-            out[7] = s.surface.area_vector.z;
-            0
-        }
-        SumsAnswer::Refused(r) => r as u32,
     }
 }

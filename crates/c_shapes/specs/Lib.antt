@@ -1,4 +1,3 @@
 pub mod CurveRecords
 pub mod PieceRecords
-pub mod Stores
 pub mod SurfaceRecords

@@ -1,6 +1,8 @@
-// Pieces, curves and surfaces as arrays of numbers.
+// Answers stored where they are due, and pieces, curves and surfaces as arrays of numbers.
 #![tactic(auto)]
 
 pub mod curve_records;
 pub mod piece_records;
+pub mod records;
+pub mod stored;
 pub mod surface_records;

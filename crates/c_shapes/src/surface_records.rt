@@ -1,24 +1,13 @@
-// Records as arrays of numbers, and answers stored where they are due: surfaces.
+// Surfaces as arrays of numbers.
 ghost use Rattle.std.specs.Prelude.{◌≡◌, ◌≤◌, length};
-ghost use Rattle.surfaces.specs.Entries.{surface_due, surface_plane_due, surface_cone_due};
-ghost use Rattle.checked.specs.Answers.{number_of};
-ghost use Rattle.c_arrays.specs.Records.{over, after};
-ghost use Rattle.c_arrays.specs.FaceRecords.{of_cone};
-ghost use Rattle.c_arrays.specs.TraceRecords.{some_due};
-ghost use Rattle.c_shapes.specs.Stores.{stored};
+ghost use Rattle.c_arrays.specs.Records.{known, over, written};
 ghost use Rattle.c_shapes.specs.SurfaceRecords.{is_surface, plane, cylinder, surface, of_plane, of_cylinder, with_surface};
 
+use crate::stored::Stored;
 use c_arrays::face_records::{cone_at, put_cone};
-use c_arrays::{NONE, vec3_at};
+use c_arrays::vec3_at;
 use piece_arrays::{is_piece, piece_of, put_piece};
-use surfaces::{ConeAnswer, Cylinder, Plane, PlaneAnswer, Surface, SurfaceAnswer};
-
-// Whether the tags are a surface's: 0 a plane, 1 a cylinder, 2 a cone, whose other tags are not read, 3 a wall.
-pub fn is_surface(kind: u32, arc: u32, trace: u32) -> bool
-    ensures { result ≡ is_surface kind arc trace }
-{
-    (kind <= 2) | ((kind == 3) & is_piece(arc, trace))
-}
+use surfaces::{Cylinder, Plane, Surface};
 
 fn plane_of(a: &[f64; 26]) -> Plane
     ensures { result ≡ plane a.now }
@@ -36,21 +25,7 @@ fn cylinder_of(a: &[f64; 26], convex: bool) -> Cylinder
         origin: vec3_at(a, 0),
         axis: vec3_at(a, 3),
         radius: a[6],
-        convex: convex,
-    }
-}
-
-pub fn surface_of(a: &[f64; 26], kind: u32, convex: bool, arc: u32, trace: u32) -> Surface
-    ensures { result ≡ surface a.now kind convex arc trace }
-{
-    if kind == 0 {
-        Surface::Plane(plane_of(a))
-    } else if kind == 1 {
-        Surface::Cylinder(cylinder_of(a, convex))
-    } else if kind == 2 {
-        Surface::Cone(cone_at(a, convex))
-    } else {
-        Surface::Wall(piece_of(a, arc, trace))
+        convex,
     }
 }
 
@@ -79,56 +54,36 @@ fn put_cylinder(c: Cylinder, out: &mut [f64])
     out[6] = c.radius;
 }
 
-fn put_surface(s: Surface, out: &mut [f64; 26])
-    ensures { out.new ≡ with_surface out.old s }
+// A surface by its tags: 0 a plane, 1 a cylinder, 2 a cone, whose other tags are not read, 3 a wall.
+pub fn surface_of(a: &[f64; 26], kind: u32, convex: bool, arc: u32, trace: u32) -> Option<Surface>
+    ensures { result ≡ known (is_surface kind arc trace) (surface a.now kind convex arc trace) }
 {
-    match s {
-        Surface::Plane(p) => put_plane(p, out),
-        Surface::Cylinder(c) => put_cylinder(c, out),
-        Surface::Cone(c) => put_cone(c, out),
-        Surface::Wall(w) => put_piece(w, out),
+    match kind {
+        0 => Some(Surface::Plane(plane_of(a))),
+        1 => Some(Surface::Cylinder(cylinder_of(a, convex))),
+        2 => Some(Surface::Cone(cone_at(a, convex))),
+        3 if is_piece(arc, trace) => Some(Surface::Wall(piece_of(a, arc, trace))),
+        _ => None,
     }
 }
 
-// The surface, whose tags are those that were handed in.
-pub fn store_surface(a: SurfaceAnswer, out: &mut [f64; 26]) -> u32
-    ensures number { result ≡ number_of (surface_due a) }
-    ensures out { out.new ≡ stored with_surface out.old (surface_due a) }
-{
-    match a {
-        SurfaceAnswer::Value(s) => {
-            put_surface(s, out);
-            0
+impl Stored<f64, 26> for Surface {
+    ghost put = { with_surface };
+
+    fn put(self, out: &mut [f64; 26]) {
+        match self {
+            Surface::Plane(p) => put_plane(p, out),
+            Surface::Cylinder(c) => put_cylinder(c, out),
+            Surface::Cone(c) => put_cone(c, out),
+            Surface::Wall(w) => put_piece(w, out),
         }
-        SurfaceAnswer::Refused(r) => r as u32,
     }
 }
 
-pub fn store_plane(a: PlaneAnswer, out: &mut [f64; 6]) -> u32
-    ensures number { result ≡ number_of (some_due (surface_plane_due a)) }
-    ensures out { out.new ≡ after of_plane out.old (some_due (surface_plane_due a)) }
-{
-    match a {
-        PlaneAnswer::Value(p) => {
-            put_plane(p, out);
-            0
-        }
-        PlaneAnswer::Nothing => NONE,
-        PlaneAnswer::Refused(r) => r as u32,
-    }
-}
+impl Stored<f64, 6> for Plane {
+    ghost put = { written of_plane };
 
-// A cone's eight numbers; which side the body is on is as it was handed in.
-pub fn store_cone(a: ConeAnswer, out: &mut [f64; 8]) -> u32
-    ensures number { result ≡ number_of (some_due (surface_cone_due a)) }
-    ensures out { out.new ≡ after of_cone out.old (some_due (surface_cone_due a)) }
-{
-    match a {
-        ConeAnswer::Value(c) => {
-            put_cone(c, out);
-            0
-        }
-        ConeAnswer::Nothing => NONE,
-        ConeAnswer::Refused(r) => r as u32,
+    fn put(self, out: &mut [f64; 6]) {
+        put_plane(self, out);
     }
 }

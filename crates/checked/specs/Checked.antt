@@ -3,8 +3,6 @@ use Rattle.std.specs.Prelude.{ℕ, zero, suc, Bool, true, false, cond, ◌&&◌,
 use Rattle.std.specs.Float.{nan, inf, fin, binary64}
 use Rattle.std.specs.Float.Ieee.{add, sub, mul, div, neg, le, of_bits}
 use Rattle.checked.specs.Refusals.{ANGLE_TOO_LARGE, NOT_FINITE}
-use Rattle.checked.specs.declared.NumberAnswer.{NumberAnswer}
-use Rattle.checked.specs.declared.NumberAnswer.TheVariants as number
 
 -- ---- computations
 -- a value, and the refusal met first on the way to it; 0 is none
@@ -107,8 +105,3 @@ settled (suc r) a = refused (suc r)
 -- a computation's answer
 abbrev pub answered : {A : Type 0} → Checked A → Due A
 answered c = settled c.refusal c.value
-
--- what the code's answer says
-abbrev pub number_due : NumberAnswer → Due Float
-number_due (number.Value x) = due x
-number_due (number.Refused n) = refused n

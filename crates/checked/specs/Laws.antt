@@ -1,4 +1,5 @@
--- Laws of refusals met in order, and of numbers that are not finite.
+-- Laws of refusals met in order, and of numbers that are not finite. A number is noted where it is tried for that: a definition notes every
+-- number, and these laws tell which notes the code may leave out.
 use Rattle.std.specs.Prelude.{ℕ, zero, suc, ◌≡◌, refl, eqb, T, pos, Float}
 use Rattle.std.proofs.Common.{sym, subst, arith}
 use mathlib.Core.Bool.{Bool, true, false, cond, ◌&&◌, ◌||◌}
@@ -38,12 +39,7 @@ unfolding first
 first_none zero b h = (refl, h)
 first_none (suc a) b h = absurd (omega arith)
 
--- what a computation with a refusal, and with none, is due to answer
-pub settled_some : {A : Type 0} (r : ℕ) (a : A) → (r ≡ 0 → ⊥) → settled r a ≡ refused r
-unfolding settled
-settled_some zero a h = absurd (h refl)
-settled_some (suc r) a h = refl
-
+-- what a computation with no refusal is due to answer
 pub settled_none : {A : Type 0} (a : A) → settled 0 a ≡ due a
 unfolding settled
 settled_none a = refl

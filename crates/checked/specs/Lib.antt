@@ -10,4 +10,6 @@ pub mod PatternLaws
 pub mod Patterns
 pub mod Refusals
 pub mod Tests
+pub mod Told
 pub mod TestsLaws
+pub mod ToldLaws

@@ -1,12 +1,16 @@
 -- One step more of a loop, and what is the same however a loop is cut. Assumes nothing.
+use Rattle.checked.specs.Answers.{and_then}
 use Prim.Native.Nat.{ℕ, zero, suc, ◌+◌, ◌-◌}
-use Rattle.std.specs.Prelude.{◌≡◌, Bool, true, false}
+use Rattle.std.specs.Prelude.{◌≡◌, Bool, true, false, ◌<◌}
 use Rattle.std.proofs.Math.Path.{refl}
-use Rattle.std.proofs.Common.{sym, ◌∙◌, ap, add-one}
+use Rattle.std.proofs.Common.{sym, ◌∙◌, ap, add-one, add-zero}
 use native.Mathlib.Omega.{arith}
-use Rattle.checked.specs.Checked.{Checked, first, ◌>>=◌, given}
+use Rattle.checked.specs.Checked.{Checked, first, ◌>>=◌, given, Due, due, refused, settled, answered}
 use Rattle.checked.specs.Laws.{first_assoc, first_zero, zero_first}
 use Rattle.checked.specs.Loops.{fold_c, while_c}
+use Rattle.checked.specs.Told.{number}
+use Rattle.checked.specs.ToldLaws.{rules as told_rules, none_met, value_is, met_is, settled_number, first_number}
+use Rattle.checked.specs.declared.Refusal.{Refusal}
 
 module _ {A : Type 0} (step : ℕ → A → Checked A) (start : A) where
   -- ---- a fixed number of steps
@@ -54,67 +58,66 @@ module _ {A B : Type 0} (m : Checked B) (step : B → ℕ → A → Checked A) (
   once_refusal zero = simp zero_first
   once_refusal (suc n) = rw (once_refusal n, once_value n) (both m.refusal _ _)
 
--- ---- the invariant of a `while` that counts: after n steps the refusal r was met first and a was reached
-pub record Done {A : Type 0} (whole : Checked A) (r : ℕ) (a : A) : Type 0 where
-  pub refusal : r ≡ whole.refusal
-  pub value : a ≡ whole.value
+-- ---- a fixed number of steps, each a call whose refusal is passed on: one step more, and the step that is refused
+-- what follows an answer, by the computation that it is of
+then_settled : {A B : Type 0} (r : ℕ) (v : A) (w : A → B) (t : A → ℕ) → and_then (settled r v) (λ a. settled (t a) (w a)) ≡ settled (first r (t v)) (w v)
+unfolding settled first
+then_settled zero v w t = refl
+then_settled (suc r) v w t = refl
 
-pub done_none : {A : Type 0} (step : ℕ → A → Checked A) (start : A) → Done (fold_c 0 step start) 0 start
-unfolding fold_c
-done_none step start = record { refusal = refl; value = refl }
+module _ {A : Type 0} (step : ℕ → A → Checked A) (start : A) where
+  -- no step yet
+  pub fold_start : due start ≡ answered (fold_c 0 step start)
+  unfolding fold_c settled
+  fold_start = refl
 
-pub done_more : {A : Type 0} (step : ℕ → A → Checked A) (start : A) (n r : ℕ) (a : A) → Done (fold_c n step start) r a → Done (fold_c (n + 1) step start) (first r (step n a).refusal) (step n a).value
-done_more step start n r a d = record {
-  refusal = rw (d.refusal, d.value) (sym (fold_refusal step start n));
-  value = rw d.value (sym (fold_value step start n));
-}
+  -- one step more
+  pub fold_goes : (n : ℕ) (a : A) (d : Due A) → due a ≡ answered (fold_c n step start) → d ≡ answered (step n a) → d ≡ answered (fold_c (n + 1) step start)
+  fold_goes n a d so_far next = simp (fold_refusal step start n, fold_value step start n, none_met _ _ so_far, value_is _ _ so_far, zero_first) next
 
--- the same where the refusal r was met before the loop
-abbrev pub met : {A : Type 0} → ℕ → Checked A → Checked A
-met r c = record { refusal = first r c.refusal; value = c.value }
+  -- a refusal stays
+  fold_stays : (r : Refusal) (k j : ℕ) → refused (number r) ≡ answered (fold_c k step start) → refused (number r) ≡ answered (fold_c (k + j) step start)
+  fold_stays r k zero met = simp add-zero met
+  fold_stays r k (suc j) met =
+      let m = met_is _ _ (fold_stays r k j met) in
+      let e : k + suc j ≡ k + j + 1 = omega arith in
+      rw e (simp (fold_refusal step start (k + j), m, first_number, settled_number))
 
-pub met_none : {A : Type 0} (step : ℕ → A → Checked A) (start : A) (r : ℕ) → Done (met r (fold_c 0 step start)) r start
-unfolding fold_c
-met_none step start r = record { refusal = sym (first_zero r); value = refl }
+  -- the step k is refused
+  pub fold_stops : (r : Refusal) (k n : ℕ) (a : A) → k < n → due a ≡ answered (fold_c k step start) → refused (number r) ≡ answered (step k a) → refused (number r) ≡ answered (fold_c n step start)
+  fold_stops r k n a less so_far next =
+      let e : k + 1 + (n - (k + 1)) ≡ n = omega (arith, less) in
+      rw (sym e) (fold_stays r (k + 1) (n - (k + 1)) (fold_goes k a _ so_far next))
 
-pub met_more : {A : Type 0} (step : ℕ → A → Checked A) (start : A) (n r s : ℕ) (a : A) → Done (met r (fold_c n step start)) s a → Done (met r (fold_c (n + 1) step start)) (first s (step n a).refusal) (step n a).value
-met_more step start n r s a d = record {
-  refusal = rw (d.refusal, d.value) (first_assoc r _ _ ∙ ap (first r) (sym (fold_refusal step start n)));
-  value = rw d.value (sym (fold_value step start n));
-}
+  -- one step more, after an answer that is passed on as it is
+  pub fold_then : (n : ℕ) (s d : Due A) → s ≡ answered (fold_c n step start) → d ≡ and_then s (λ a. answered (step n a)) → d ≡ answered (fold_c (n + 1) step start)
+  fold_then n s d so_far next = simp (fold_refusal step start n, fold_value step start n) (next ∙ (rw so_far (then_settled _ _ _ _)))
 
--- ---- the invariant of a `while` that stops early: what remains, r being met before it, is what the whole is
-pub record Remains {A : Type 0} (whole : Checked A) (r : ℕ) (rest : Checked A) : Type 0 where
-  pub refusal : first r rest.refusal ≡ whole.refusal
-  pub value : rest.value ≡ whole.value
+-- ---- a `while` that meets no refusal, step by step: the loop from a
+module _ {A : Type 0} (over : ℕ) (test : A → Checked Bool) (step : A → Checked A) (a : A) (none : (test a).refusal ≡ 0) where
+  -- one step more
+  pub goes_on : (left : ℕ) → (test a).value ≡ true → (step a).refusal ≡ 0 → while_c over (suc left) test step a ≡ while_c over left test step (step a).value
+  unfolding while_c first
+  goes_on left h met = simp (none, h, met)
 
-pub remains_whole : {A : Type 0} (whole : Checked A) → Remains whole 0 whole
-remains_whole whole = record { refusal = zero_first whole.refusal; value = refl }
+  -- the end
+  pub ends : (left : ℕ) → (test a).value ≡ false → while_c over left test step a ≡ given a
+  unfolding while_c first
+  ends zero h = simp (none, h)
+  ends (suc left) h = simp (none, h)
 
-module _ {A : Type 0} (over : ℕ) (test : A → Checked Bool) (step : A → Checked A) (a : A) (r left : ℕ) (whole : Checked A) (inv : Remains whole r (while_c over left test step a)) where
-  -- one more
-  pub remains_more : (left ≡ 0 → ⊥) → (test a).value ≡ true → Remains whole (first (first r (test a).refusal) (step a).refusal) (while_c over (left - 1) test step (step a).value)
+  -- one step too many
+  pub is_over : (test a).value ≡ true → while_c over 0 test step a ≡ record { refusal = over; value = a }
+  unfolding while_c first
+  is_over h = simp (none, h)
+
+  -- a refusal of the step
+  pub step_refuses : (left : ℕ) (r : Refusal) → (test a).value ≡ true → (step a).refusal ≡ number r → (while_c over (suc left) test step a).refusal ≡ number r
   unfolding while_c
-  remains_more some h = go left some inv
-    where
-      go : (left : ℕ) → (left ≡ 0 → ⊥) → Remains whole r (while_c over left test step a) → Remains whole (first (first r (test a).refusal) (step a).refusal) (while_c over (left - 1) test step (step a).value)
-      go zero some i = absurd (some refl)
-      go (suc left) some i =
-          let less : suc left - 1 ≡ left = omega arith in
-          rw less (record { refusal = simp first_assoc (simp h at i.refusal); value = simp h at i.value })
+  step_refuses left r h met = simp (none, h, met, told_rules)
 
-  -- none, since the test fails
-  pub remains_none : (test a).value ≡ false → Done whole (first r (test a).refusal) a
-  unfolding while_c
-  remains_none h = go left inv
-    where
-      go : (left : ℕ) → Remains whole r (while_c over left test step a) → Done whole (first r (test a).refusal) a
-      go zero i = record { refusal = simp (h, first_zero) at i.refusal; value = simp h at i.value }
-      go (suc left) i = record { refusal = simp (h, first_zero) at i.refusal; value = simp h at i.value }
-
-  -- one too many
-  pub remains_over : left ≡ 0 → (test a).value ≡ true → Done whole (first (first r (test a).refusal) over) a
-  unfolding while_c
-  remains_over none h =
-      let i : Remains whole r (while_c over 0 test step a) = rw none at inv in
-      record { refusal = simp first_assoc (simp h at i.refusal); value = simp h at i.value }
+-- a refusal of the test
+pub test_refuses : {A : Type 0} (over left : ℕ) (test : A → Checked Bool) (step : A → Checked A) (a : A) (r : Refusal) → (test a).refusal ≡ number r → (while_c over left test step a).refusal ≡ number r
+unfolding while_c
+test_refuses over zero test step a r met = simp (met, told_rules)
+test_refuses over (suc left) test step a r met = simp (met, told_rules)

@@ -1,4 +1,4 @@
--- The refusals by number, named as in the code.
+-- The refusals by number, named as for C; `Refusal` of the code has the same words.
 use Rattle.std.specs.Prelude.{ℕ}
 
 -- ---- by the drawing

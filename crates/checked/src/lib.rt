@@ -1,63 +1,79 @@
-// Refusals by number, the tests that lead to them, and helpers on bit patterns that have a result for every f64.
+// Refusals, the tests that lead to them, and helpers on bit patterns that have a result for every f64.
 #![tactic(auto)]
 
 ghost use Rattle.std.specs.Prelude.{◌≡◌};
-ghost use Rattle.checked.specs.Checked.{is_finite, nine, first, within, settled, number_due};
+ghost use Rattle.checked.specs.Checked.{is_finite, within, finite, answered};
+ghost use Rattle.checked.specs.Told.{number, told, failed};
+ghost use Rattle.checked.specs.Refusals.{OUT_OF_RANGE};
 ghost use Rattle.checked.specs.Patterns as Patterns;
-ghost use Rattle.checked.specs.Tests.{fails, neutral_test, chord_test};
+ghost use Rattle.checked.specs.Tests.{fails, ◌or◌, neutral_test, chord_test};
+
+use std::error::Error;
+use std::fmt;
 
 pub mod loops;
 
-// ---- by the drawing
-// A number handed in is not finite, or above 1,048,576 in magnitude.
-pub const OUT_OF_RANGE: u8 = 1;
+// Why an entry gives no result. C and the papers know each by its number.
+#[derive(Clone, Copy, Debug, PartialEq, Eq, Hash)]
+pub enum Refusal {
+    // ---- by the drawing
+    // A number handed in is not finite, or above 1,048,576 in magnitude.
+    OutOfRange = 1,
+    // A neutral radius is not greater than 0.
+    NeutralNotPositive = 2,
+    // A piece has both an arc and a trace.
+    ArcAndTrace = 3,
 
-// A neutral radius is not greater than 0.
-pub const NEUTRAL_NOT_POSITIVE: u8 = 2;
+    // ---- by the calling program
+    // A box holds a NaN, or sums hold a NaN or an infinity.
+    BadBoxOrSums = 4,
+    // A chord is below 0, or a deviation is not above 0.
+    BadTolerance = 5,
+    // A row is shorter than three times the points due.
+    RowTooShort = 6,
+    // A development's piece is among the paths of a cone whose slope is not 0.
+    PieceOnCone = 7,
 
-// A piece has both an arc and a trace.
-pub const ARC_AND_TRACE: u8 = 3;
+    // ---- by the arithmetic
+    // A finite angle above 1,048,576 in magnitude is due for a sine or cosine.
+    AngleTooLarge = 8,
+    // A number that the result depends on is not finite.
+    NotFinite = 9,
+    // A count, or a corner to print, is above its limit.
+    CountTooLarge = 10,
 
-// ---- by the calling program
-// A box holds a NaN, or sums hold a NaN or an infinity.
-pub const BAD_BOX_OR_SUMS: u8 = 4;
-
-// A chord is below 0, or a deviation is not above 0.
-pub const BAD_TOLERANCE: u8 = 5;
-
-// A row is shorter than three times the points due.
-pub const ROW_TOO_SHORT: u8 = 6;
-
-// A development's piece is among the paths of a cone whose slope is not 0.
-pub const PIECE_ON_CONE: u8 = 7;
-
-// ---- by the arithmetic
-// A finite angle above 1,048,576 in magnitude is due for a sine or cosine.
-pub const ANGLE_TOO_LARGE: u8 = 8;
-
-// A number that the result depends on is not finite.
-pub const NOT_FINITE: u8 = 9;
-
-// A count, or a corner to print, is above its limit.
-pub const COUNT_TOO_LARGE: u8 = 10;
-
-// ---- by the edge file
-// The bytes are not those of an edge file.
-pub const MALFORMED_FILE: u8 = 11;
-
-// A number, with the refusal that its computation met first; 0 is none.
-#[derive(Clone, Copy)]
-pub struct CheckedNumber {
-    pub value: f64,
-    pub refusal: u8,
+    // ---- by the edge file
+    // The bytes are not those of an edge file.
+    MalformedFile = 11,
 }
 
-// The answer of an entry whose result is a number.
-#[derive(Clone, Copy)]
-pub enum NumberAnswer {
-    Value(f64),
-    Refused(u8),
+impl Refusal {
+    pub fn number(self) -> u8
+        ensures { result ≡ number self }
+    {
+        self as u8
+    }
 }
+
+impl fmt::Display for Refusal {
+    fn fmt<W: fmt::Write>(&self, f: &mut fmt::Formatter<W>) -> fmt::Result {
+        f.write_str(match self {
+            Refusal::OutOfRange => "a number is not finite, or above 1048576 in magnitude",
+            Refusal::NeutralNotPositive => "a neutral radius is not above 0",
+            Refusal::ArcAndTrace => "a piece has both an arc and a trace",
+            Refusal::BadBoxOrSums => "a box or sums hold a NaN, or sums an infinity",
+            Refusal::BadTolerance => "a chord is below 0, or a deviation not above 0",
+            Refusal::RowTooShort => "a row is too short for its points",
+            Refusal::PieceOnCone => "a piece of a development lies on a sloping cone",
+            Refusal::AngleTooLarge => "an angle is above 1048576 in magnitude",
+            Refusal::NotFinite => "a number on the way to the result is not finite",
+            Refusal::CountTooLarge => "a count or a corner is above its limit",
+            Refusal::MalformedFile => "not an edge file",
+        })
+    }
+}
+
+impl Error for Refusal {}
 
 // π, 2π and π/4, rounded.
 pub const PI: f64 = 3.141592653589793;
@@ -83,57 +99,45 @@ pub fn is_within(x: f64) -> bool
     (-LIMIT <= x) & (x <= LIMIT)
 }
 
-// The refusal met first of two.
-pub fn earlier(r: u8, s: u8) -> u8
-    ensures { result ≡ first r s }
+// The refusal where a test of what is handed in does not hold.
+pub fn require(holds: bool, refusal: Refusal) -> Result<(), Refusal>
+    ensures { failed result ≡ fails (number refusal) holds }
 {
-    if r == 0 { s } else { r }
-}
-
-// The number of a test that does not hold; 0 is none.
-pub fn fails(number: u8, holds: bool) -> u8
-    ensures { result ≡ fails number holds }
-{
-    if holds { 0 } else { number }
+    if holds { Ok(()) } else { Err(refusal) }
 }
 
 // A neutral radius is above 0.
-pub fn tried_neutral(n: f64) -> u8
-    ensures { result ≡ neutral_test n }
+pub fn require_neutral(n: f64) -> Result<(), Refusal>
+    ensures { failed result ≡ neutral_test n }
 {
-    fails(NEUTRAL_NOT_POSITIVE, 0.0 < n)
+    require(0.0 < n, Refusal::NeutralNotPositive)
 }
 
 // A chord is not below 0.
-pub fn tried_chord(chord: f64) -> u8
-    ensures { result ≡ chord_test chord }
+pub fn require_chord(chord: f64) -> Result<(), Refusal>
+    ensures { failed result ≡ chord_test chord }
 {
-    fails(BAD_TOLERANCE, !(chord < 0.0))
+    require(!(chord < 0.0), Refusal::BadTolerance)
 }
 
-// The refusal of a number that the result depends on.
-fn refusal_of(x: f64) -> u8
-    ensures { result ≡ nine x }
+// What a drawing is handed: numbers within the limit, and a chord that is not below 0. The numbers'
+// refusal is the earlier one.
+pub fn require_drawing(within: bool, chord: f64) -> Result<(), Refusal>
+    ensures { failed result ≡ (fails OUT_OF_RANGE within or chord_test chord) }
 {
-    if is_finite(x) { 0 } else { NOT_FINITE }
+    let numbers = require(within, Refusal::OutOfRange);
+    let tolerance = require_chord(chord);
+    numbers.and(tolerance)
 }
 
-// The refusal met first: r where there is one, else that of x.
-pub fn note(r: u8, x: f64) -> u8
-    ensures { result ≡ first r (nine x) }
+// A number that the result depends on, or its refusal.
+pub fn finite(x: f64) -> Result<f64, Refusal>
+    ensures { told result ≡ answered (finite x) }
 {
-    earlier(r, refusal_of(x))
-}
-
-// The number, or its refusal where there is one.
-pub fn settle(c: CheckedNumber) -> NumberAnswer
-    ensures { number_due result ≡ settled c.refusal c.value }
-{
-    let r = c.refusal;
-    if r == 0 {
-        NumberAnswer::Value(c.value)
+    if is_finite(x) {
+        Ok(x)
     } else {
-        NumberAnswer::Refused(r)
+        Err(Refusal::NotFinite)
     }
 }
 

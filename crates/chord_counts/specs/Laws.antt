@@ -1,21 +1,24 @@
--- Whole numbers up to a limit from floats, for any limit that an f64 holds exactly. Assumes
--- nothing.
+-- Whole numbers up to a limit from floats, for any limit that an f64 holds exactly, and which notes
+-- of a quotient suffice. Assumes nothing.
 use Rattle.std.specs.Prelude.{◌≡◌, ℕ, ◌+◌, ◌-◌, ◌*◌, ◌/◌, ◌^◌, ◌<◌, ◌≤◌, Bool, true, false, cond, ◌&&◌, ◌||◌, T, ◌⊎◌, ℤ, pos, ◌==◌, ◌≢◌, nat_lt, refl, Float}
 use Rattle.std.proofs.Common.{sym, ◌∙◌, ap, subst, inl, inr, true≢false, mul_comm, one-mul, mul-one, mul_right_comm, le_of_mul-le-mul_right, ltb→lt, eqb→eq, ltb-false}
 use native.Mathlib.Omega.{arith}
 use Rattle.std.proofs.Math.Nat.{div-le_of_le-mul, min-le_left, mul-lt-mul_of_pos_right}
 use Rattle.std.proofs.Math.Dec.{lt→ltb}
-use Rattle.std.specs.Float.Ieee.{nan, up, down, lt, eq, le, neg, of_bits, of_int, to_unsigned}
+use Rattle.std.specs.Float.Ieee.{nan, up, down, sub, div, lt, eq, le, neg, of_bits, of_int, to_unsigned}
 use Rattle.std.specs.Float.{inf, fin, binary64}
 use Rattle.std.specs.Float.Ieee.Fits.{and_l, down_pos}
 use Rattle.std.specs.Float.Ieee.Exact.{HasValue}
 use Rattle.std.specs.Float.Ieee.Back.{round_whole}
 use Rattle.checked.specs.Refusals.{COUNT_TOO_LARGE}
-use Rattle.checked.specs.Checked.{given}
-use Rattle.checked.specs.Numbers.{float}
+use Rattle.checked.specs.Checked.{first, nine, given}
+use Rattle.checked.specs.Laws.{rules as checked_rules}
+use Rattle.checked.specs.Numbers.{one, float}
 use Rattle.rounding.specs.Whole.{ceil}
 use Rattle.order.specs.Order.{or_cases}
 use Rattle.order.specs.Least.{greatest}
+use Rattle.libm.specs.Roots.{acos}
+use Rattle.chord_counts.specs.Chords.{quotient_c}
 use Rattle.chord_counts.specs.Counts.{limited_c, count_c}
 
 not_below : (a b : ℕ) → 0 < a → nat_lt 0 (a + b) ≢ false
@@ -102,3 +105,11 @@ limited_most x limit L = by (le x (float limit)) (λ h. at_most x limit L h)
 pub count_limited : (x least : Float) (limit : ℕ) → limit ≤ 2 ^ 53 → (count_c x least limit).value ≤ limit
 unfolding count_c
 count_limited x least limit L = limited_most (greatest (ceil binary64 x) least) limit L
+
+-- ---- the cosine of half a chord's angle, and that angle
+abbrev pub cosine : Float → Float → Float
+cosine radius chord = sub binary64 one (div binary64 chord radius)
+
+pub quotient_refusal : (radius chord : Float) → (quotient_c radius chord).refusal ≡ first (nine (cosine radius chord)) (nine (acos (cosine radius chord)))
+unfolding quotient_c
+quotient_refusal radius chord = simp checked_rules

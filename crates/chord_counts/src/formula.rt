@@ -1,8 +1,10 @@
 // The formulas on numbers of any size.
 ghost use Rattle.std.specs.Prelude.{◌≡◌};
+ghost use Rattle.checked.specs.Checked.{answered};
+ghost use Rattle.checked.specs.Told.{told};
 ghost use Rattle.chord_counts.specs.Chords.{quotient_c, chords_c, clamped, per_turn_c};
 
-use checked::{CheckedNumber, PI, note};
+use checked::{PI, Refusal, finite};
 use libm::roots::acos;
 use rounding::ceil;
 
@@ -10,29 +12,21 @@ const FEWEST: f64 = 12.0;
 
 const MOST: f64 = 64.0;
 
-fn quotient(radius: f64, chord: f64) -> CheckedNumber
-    ensures refusal { result.refusal ≡ (quotient_c radius chord).refusal }
-    ensures value { result.value ≡ (quotient_c radius chord).value }
+fn quotient(radius: f64, chord: f64) -> Result<f64, Refusal>
+    ensures { told result ≡ answered (quotient_c radius chord) }
 {
-    let d = 1.0 - chord / radius;
-    let a = acos(d);
-    CheckedNumber {
-        refusal: note(note(0, d), a),
-        value: PI / a,
-    }
+    let d = finite(1.0 - chord / radius)?;
+    let a = finite(acos(d))?;
+    Ok(PI / a)
 }
 
-fn chords(radius: f64, chord: f64) -> CheckedNumber
-    ensures refusal { result.refusal ≡ (chords_c radius chord).refusal }
-    ensures value { result.value ≡ (chords_c radius chord).value }
+fn chords(radius: f64, chord: f64) -> Result<f64, Refusal>
+    ensures { told result ≡ answered (chords_c radius chord) }
 {
     if chord < radius {
         quotient(radius, chord)
     } else {
-        CheckedNumber {
-            refusal: 0,
-            value: 0.0,
-        }
+        Ok(0.0)
     }
 }
 
@@ -48,13 +42,9 @@ fn clamp(x: f64) -> f64
     }
 }
 
-pub fn per_turn(radius: f64, chord: f64) -> CheckedNumber
-    ensures refusal { result.refusal ≡ (per_turn_c radius chord).refusal }
-    ensures value { result.value ≡ (per_turn_c radius chord).value }
+pub fn per_turn(radius: f64, chord: f64) -> Result<f64, Refusal>
+    ensures { told result ≡ answered (per_turn_c radius chord) }
 {
-    let n = chords(radius, chord);
-    CheckedNumber {
-        refusal: n.refusal,
-        value: clamp(ceil(n.value)),
-    }
+    let n = chords(radius, chord)?;
+    Ok(clamp(ceil(n)))
 }

@@ -2,20 +2,13 @@
 -- formula is worked out.
 use Rattle.std.specs.Prelude.{Bool, ◌&&◌, Float}
 use Rattle.checked.specs.Refusals.{OUT_OF_RANGE}
-use Rattle.checked.specs.Checked.{within, Due, due, refused, answered}
+use Rattle.checked.specs.Checked.{within, Due, answered}
 use Rattle.checked.specs.Tests.{fails, passing}
 use Rattle.vectors.specs.declared.Vec3.{Vec3}
 use Rattle.vectors.specs.Vectors.{within3, space}
 use Rattle.cones.specs.declared.Cone.{Cone}
 use Rattle.cones.specs.declared.Frame.{Frame}
-use Rattle.cones.specs.declared.FrameAnswer.{FrameAnswer}
-use Rattle.cones.specs.declared.FrameAnswer.TheVariants as answer
 use Rattle.cones.specs.Frames.{frame_c, angle_c, point_c}
-
--- what the code's answer says
-abbrev pub frame_answer_due : FrameAnswer → Due Frame
-frame_answer_due (answer.Value f) = due f
-frame_answer_due (answer.Refused n) = refused n
 
 -- every number of a cone, and of a frame, passes the test of what is handed in
 unfoldable pub cone_within : Cone → Bool

@@ -1,8 +1,7 @@
 -- Which notes of a frame's computations suffice.
-use Rattle.std.specs.Prelude.{ℕ, ◌≡◌, Float}
-use Rattle.std.proofs.Common.{sym, ◌∙◌}
-use Rattle.checked.specs.Checked.{first, nine, due, refused, settled}
-use Rattle.checked.specs.Laws.{settled_some, settled_none, rules as checked_rules}
+use Rattle.std.specs.Prelude.{◌≡◌, Float}
+use Rattle.checked.specs.Checked.{first, nine}
+use Rattle.checked.specs.Laws.{rules as checked_rules}
 use Rattle.vectors.specs.declared.Vec3.{Vec3}
 use Rattle.vectors.specs.Vectors.{along_x, along_y, along_z, nines, minus_c, dot_c}
 use Rattle.vectors.specs.Laws.{rules as vectors_rules}
@@ -26,13 +25,6 @@ module _ (c : Cone) where
 pub frame_refusal : (c : Cone) → (frame_c c).refusal ≡ first (nine (cosine c along_x)) (first (nine (cosine c along_y)) (first (nine (cosine c along_z)) (first (nine (length_c (aside c)).value) (nines (frame_c c).value.e2))))
 unfolding frame_c
 frame_refusal c = simp (unit_refusal, all)
-
--- how the frame is answered, by its refusal and its value
-pub frame_answered : (c : Cone) (r : ℕ) (f : Frame) → r ≡ (frame_c c).refusal → f ≡ (frame_c c).value → r ≡ 0 → due f ≡ settled (frame_c c).refusal (frame_c c).value
-frame_answered c r f p q z = sym (simp (sym p ∙ z, sym q, settled_none))
-
-pub frame_refused : (c : Cone) (r : ℕ) → r ≡ (frame_c c).refusal → (r ≡ 0 → ⊥) → refused r ≡ settled (frame_c c).refusal (frame_c c).value
-frame_refused c r p n = sym (settled_some r (frame_c c).value n) ∙ simp p
 
 pub angle_refusal : (f : Frame) (p : Vec3) → (angle_c f p).refusal ≡ first (nine (dot_c (minus_c p f.origin).value f.e2).value) (first (nine (dot_c (minus_c p f.origin).value f.e1).value) (nine (angle_c f p).value))
 unfolding angle_c

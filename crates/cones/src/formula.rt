@@ -1,15 +1,17 @@
 // The formulas on numbers of any size.
 ghost use Rattle.std.specs.Prelude.{◌≡◌};
+ghost use Rattle.checked.specs.Checked.{answered};
+ghost use Rattle.checked.specs.Told.{told};
 ghost use Rattle.cones.specs.Frames.{least_axis, frame_c, angle_c, point_c};
 
-use crate::{CheckedFrame, Cone, Frame};
-use checked::{CheckedNumber, note};
+use crate::{Cone, Frame};
+use checked::{Refusal, finite};
 use directions::formula::{across, length};
 use float_bits::size;
 use libm::atan2::atan2;
 use libm::sincos::sincos;
-use vectors::formula::{cross, dot, minus, noted, plus, times};
-use vectors::{CheckedVec3, Vec3};
+use vectors::Vec3;
+use vectors::formula::{cross, dot, finite3, minus, plus, times};
 
 // The coordinate axis of the least of three cosines without their signs, the first one of equals.
 pub fn least_axis(x: f64, y: f64, z: f64) -> Vec3
@@ -25,56 +27,41 @@ pub fn least_axis(x: f64, y: f64, z: f64) -> Vec3
     }
 }
 
-// The unit vector's numbers are noted with e2, which is made of them.
-pub fn own_frame(c: Cone) -> CheckedFrame
-    ensures refusal { result.refusal ≡ (frame_c c).refusal }
-    ensures value { result.value ≡ (frame_c c).value }
+// The unit vector's numbers are tried with e2, which is made of them.
+pub fn own_frame(c: Cone) -> Result<Frame, Refusal>
+    ensures { told result ≡ answered (frame_c c) }
 {
-    let a = c.axis;
-    let o = c.origin;
-    let x = dot(Vec3::ALONG_X, a);
-    let y = dot(Vec3::ALONG_Y, a);
-    let z = dot(Vec3::ALONG_Z, a);
-    let w = across(a, least_axis(x, y, z));
-    let l = length(w);
+    let axis = c.axis;
+    let x = finite(dot(Vec3::ALONG_X, axis))?;
+    let y = finite(dot(Vec3::ALONG_Y, axis))?;
+    let z = finite(dot(Vec3::ALONG_Z, axis))?;
+    let w = across(axis, least_axis(x, y, z));
+    let l = finite(length(w))?;
     let e1 = times(w, 1.0 / l);
-    let e2 = cross(a, e1);
-    CheckedFrame {
-        value: Frame {
-            axis: a,
-            origin: o,
-            e1: e1,
-            e2: e2,
-        },
-        refusal: noted(e2, note(note(note(note(0, x), y), z), l)),
-    }
+    let e2 = finite3(cross(axis, e1))?;
+    Ok(Frame {
+        axis,
+        origin: c.origin,
+        e1,
+        e2,
+    })
 }
 
-pub fn angle(f: Frame, p: Vec3) -> CheckedNumber
-    ensures refusal { result.refusal ≡ (angle_c f p).refusal }
-    ensures value { result.value ≡ (angle_c f p).value }
+pub fn angle(f: Frame, p: Vec3) -> Result<f64, Refusal>
+    ensures { told result ≡ answered (angle_c f p) }
 {
     let w = minus(p, f.origin);
-    let y = dot(w, f.e2);
-    let x = dot(w, f.e1);
-    let a = atan2(y, x);
-    CheckedNumber {
-        value: a,
-        refusal: note(note(note(0, y), x), a),
-    }
+    let y = finite(dot(w, f.e2))?;
+    let x = finite(dot(w, f.e1))?;
+    finite(atan2(y, x))
 }
 
-pub fn point(f: Frame, theta: f64, z: f64, r: f64) -> CheckedVec3
-    ensures refusal { result.refusal ≡ (point_c f theta z r).refusal }
-    ensures value { result.value ≡ (point_c f theta z r).value }
+pub fn point(f: Frame, theta: f64, z: f64, r: f64) -> Result<Vec3, Refusal>
+    ensures { told result ≡ answered (point_c f theta z r) }
 {
-    let s = sincos(theta);
-    let p = plus(
+    let s = sincos(theta)?;
+    finite3(plus(
         plus(f.origin, times(f.axis, z)),
         times(plus(times(f.e1, s.cos), times(f.e2, s.sin)), r),
-    );
-    CheckedVec3 {
-        value: p,
-        refusal: noted(p, s.refusal),
-    }
+    ))
 }

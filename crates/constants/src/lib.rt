@@ -8,11 +8,7 @@ ghost use Rattle.chord_counts.specs.Counts as Counts;
 ghost use Rattle.curves.specs.Drawn as Drawn;
 ghost use Rattle.constants.specs.Constants as Constants;
 
-use checked::{
-    ANGLE_TOO_LARGE, ARC_AND_TRACE, BAD_BOX_OR_SUMS, BAD_TOLERANCE, COUNT_TOO_LARGE, FRAC_PI_4,
-    MALFORMED_FILE, NEUTRAL_NOT_POSITIVE, NOT_FINITE, OUT_OF_RANGE, PI, PIECE_ON_CONE,
-    ROW_TOO_SHORT, TAU,
-};
+use checked::{FRAC_PI_4, PI, Refusal, TAU};
 use chord_counts::counts;
 use curves::drawn::CURVE_ROW;
 use integrals::{NODES, WEIGHTS};
@@ -23,17 +19,17 @@ pub fn refusals() -> [u8; 11]
     ensures { result ≡ Constants.refusals }
 {
     [
-        OUT_OF_RANGE,
-        NEUTRAL_NOT_POSITIVE,
-        ARC_AND_TRACE,
-        BAD_BOX_OR_SUMS,
-        BAD_TOLERANCE,
-        ROW_TOO_SHORT,
-        PIECE_ON_CONE,
-        ANGLE_TOO_LARGE,
-        NOT_FINITE,
-        COUNT_TOO_LARGE,
-        MALFORMED_FILE,
+        Refusal::OutOfRange.number(),
+        Refusal::NeutralNotPositive.number(),
+        Refusal::ArcAndTrace.number(),
+        Refusal::BadBoxOrSums.number(),
+        Refusal::BadTolerance.number(),
+        Refusal::RowTooShort.number(),
+        Refusal::PieceOnCone.number(),
+        Refusal::AngleTooLarge.number(),
+        Refusal::NotFinite.number(),
+        Refusal::CountTooLarge.number(),
+        Refusal::MalformedFile.number(),
     ]
 }
 

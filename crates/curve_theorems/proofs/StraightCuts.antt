@@ -3,7 +3,7 @@
 -- (`straight_cuts_stay`). A width does so exactly where it is 2 ^ -33 mm or more (`enough`, `needed`). It is said in whole numbers: the point and the
 -- four coordinates of the box, times 2 ^ 1074 (`scaled` and `Between` of crates/float_bounds). What carries it is the limit of what is handed in: no
 -- coordinate is above 2 ^ 20 in magnitude. Assumes nothing.
-use Rattle.std.specs.Prelude.{ℕ, ◌+◌, ◌≤◌, ◌≡◌, refl, pos, negsuc, ◌+ℤ◌, ◌≤ℤ◌, Float}
+use Rattle.std.specs.Prelude.{ℕ, ◌+◌, ◌≤◌, ◌≡◌, refl, pos, negsuc, ◌+ℤ◌, ◌≤ℤ◌, Float, None}
 use Rattle.std.proofs.Common.{sym, ◌∙◌, arith, lit≤, leb→le}
 use Rattle.std.proofs.Math.Path.{ap, subst}
 use Rattle.std.proofs.Math.Dec.{T}
@@ -26,8 +26,6 @@ use Rattle.vectors.specs.Vectors.{origin, plane, space, within2, within3}
 use Rattle.developments.specs.Developments.{development_within}
 use Rattle.arc_theorems.specs.Sizes.{nine_none}
 use Rattle.piece_curves.specs.declared.meet_curves.Place.{Place}
-use Rattle.piece_curves.specs.declared.PieceArc.TheVariants as arc_variants
-use Rattle.piece_curves.specs.declared.PieceTrace.TheVariants as trace_variants
 use Rattle.piece_curves.specs.declared.CurveKind.TheVariants as way
 use Rattle.piece_curves.specs.PieceCurves.{curve_c, kind_c, untraced, curve_by}
 use Rattle.piece_curves.specs.Points.{straight_c, at_c}
@@ -134,8 +132,8 @@ piece = record {
   dev = record { origin = origin; axis = space zero zero one; start = space one zero zero; neutral = one };
   from = plane (neg limit) zero;
   to = plane below_limit zero;
-  arc = arc_variants.Without;
-  trace = trace_variants.Without;
+  arc = None;
+  trace = None;
 }
 
 piece_straight : Straight piece

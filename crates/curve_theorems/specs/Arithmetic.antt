@@ -1,7 +1,8 @@
 -- What the computations on the way to a piece's points meet: no refusal, or one by the arithmetic, whose number is 8 or above. 1 to 7
 -- are met by what is handed in or lent, and by nothing else. A law for each definition: what holds of its parts holds of it. Assumes
 -- nothing.
-use Rattle.std.specs.Prelude.{ℕ, zero, suc, Bool, true, false, cond, ◌||◌, T, eqb, leb, Float}
+use Rattle.traces.specs.declared.Trace.{Trace}
+use Rattle.std.specs.Prelude.{ℕ, zero, suc, Bool, true, false, cond, ◌||◌, T, eqb, leb, Float, Option, Some, None}
 use Rattle.checked.specs.Refusals.{ANGLE_TOO_LARGE, NOT_FINITE, COUNT_TOO_LARGE}
 use Rattle.checked.specs.Checked.{Checked, first, nine, eight, is_finite, within}
 use Rattle.checked.specs.Loops.{fold_c}
@@ -26,9 +27,6 @@ use Rattle.meets.specs.Meets.{pipe_by, pipe_c}
 use Rattle.developments.specs.Formulas as developments
 use Rattle.traces.specs.declared.Trace.TheVariants as trace
 use Rattle.piece_curves.specs.declared.meet_curves.MeetCurve.{MeetCurve}
-use Rattle.piece_curves.specs.declared.PieceArc.{PieceArc}
-use Rattle.piece_curves.specs.declared.PieceTrace.{PieceTrace}
-use Rattle.piece_curves.specs.declared.PieceTrace.TheVariants as trace_variants
 use Rattle.piece_curves.specs.declared.CurveKind.{CurveKind}
 use Rattle.piece_curves.specs.declared.CurveKind.TheVariants as way
 use Rattle.piece_curves.specs.declared.PieceCurve.{PieceCurve}
@@ -231,11 +229,11 @@ own_turn_met (way.Arc a) rho chord = per_turn_met rho chord
 own_turn_met (way.Wave w) rho chord = none_met
 own_turn_met (way.Meet c) rho chord = none_met
 
-kind_met : (from to : Vec2) (n : Float) (arc : PieceArc) (t : PieceTrace) → Met (kind_c from to n arc t)
+kind_met : (from to : Vec2) (n : Float) (arc : Option ProfileArc) (t : Option Trace) → Met (kind_c from to n arc t)
 unfolding kind_c traced_c meet_kind_c
-kind_met from to n arc trace_variants.Without = none_met
-kind_met from to n arc (trace_variants.With (trace.Wave w)) = none_met
-kind_met from to n arc (trace_variants.With (trace.Meet m)) = first_met _ _ (pipe_met m n) none_met
+kind_met from to n arc None = none_met
+kind_met from to n arc (Some (trace.Wave w)) = none_met
+kind_met from to n arc (Some (trace.Meet m)) = first_met _ _ (pipe_met m n) none_met
 
 pub chords_of_met : (w : RolledAt) (chord : Float) → Met (chords_of w chord)
 unfolding chords_of run_c curve_c counts.chords_c

@@ -4,23 +4,21 @@
 -- four coordinates of the box, times 2 ^ 1074 (`scaled` and `Between` of crates/float_bounds). What carries it is the limit of what is handed in: no
 -- coordinate is above 2 ^ 20 in magnitude. Assumes nothing.
 -- Proved in proofs/StraightCuts.antt.
-use Rattle.std.specs.Prelude.{ℕ, ◌^◌, ◌≡◌, Float}
+use Rattle.std.specs.Prelude.{ℕ, ◌^◌, ◌≡◌, Float, None}
 use Rattle.checked.specs.Checked.{due}
 use Rattle.checked.specs.Numbers.{zero, one}
 use Rattle.float_bounds.specs.Intervals.{In}
 use Rattle.float_bounds.specs.Units.{F64, Between}
 use Rattle.vectors.specs.declared.Vec2.{Vec2}
 use Rattle.piece_curves.specs.declared.meet_curves.Place.{Place}
-use Rattle.piece_curves.specs.declared.PieceArc.TheVariants as arc_variants
-use Rattle.piece_curves.specs.declared.PieceTrace.TheVariants as trace_variants
 use Rattle.piece_boxes.specs.declared.brackets.FlatBox.{FlatBox}
 use Rattle.pieces.specs.declared.Rolled.{Rolled}
 use Rattle.pieces.specs.Entries.{tests, at_due, uv_box_due}
 
 -- a piece with neither an arc nor a trace, whose ends have f64 numbers for coordinates
 pub record Straight (p : Rolled) : Type 0 where
-  pub arc : p.arc ≡ arc_variants.Without
-  pub trace : p.trace ≡ trace_variants.Without
+  pub arc : p.arc ≡ None
+  pub trace : p.trace ≡ None
   pub from_u : F64 p.from.x
   pub from_v : F64 p.from.y
   pub to_u : F64 p.to.x

@@ -1,7 +1,6 @@
 -- A curve in space: an arc, or a piece of a development at a radius from its axis.
-use Rattle.std.specs.Prelude.{List}
+use Rattle.std.specs.Prelude.{List, Option, Some, None}
 use Rattle.checked.specs.Checked.{Checked, ◌>>=◌, given}
-use Rattle.traces.specs.Traces.{Optional, some, none}
 use Rattle.vectors.specs.declared.Vec3.{Vec3}
 use Rattle.motions.specs.declared.Rigid.{Rigid}
 use Rattle.arcs.specs.declared.Arc.{Arc}
@@ -29,9 +28,9 @@ moved_c (curve.Rolled w) m = do
   given (curve.Rolled (record { piece = p; radius = w.radius }))
 
 -- the curve's arc, none for a piece
-unfoldable pub arc_of : Curve → Optional Arc
-arc_of (curve.Arc a) = some a
-arc_of (curve.Rolled w) = none
+unfoldable pub arc_of : Curve → Option Arc
+arc_of (curve.Arc a) = Some a
+arc_of (curve.Rolled w) = None
 
 -- the ends and extreme points by which the curve widens a box: an arc's from one end to the other; a piece has its own ends
 unfoldable pub points_c : Curve → Vec3 → Vec3 → Checked (List Vec3)

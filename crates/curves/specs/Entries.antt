@@ -1,9 +1,8 @@
 -- What the entries on curves are due to answer.
-use Rattle.std.specs.Prelude.{ℕ, ◌&&◌}
+use Rattle.std.specs.Prelude.{ℕ, ◌&&◌, Option}
 use Rattle.checked.specs.Refusals.{OUT_OF_RANGE}
-use Rattle.checked.specs.Checked.{within, Due, due, refused, answered}
+use Rattle.checked.specs.Checked.{within, Due, due, answered}
 use Rattle.checked.specs.Tests.{fails, ◌or◌, passing}
-use Rattle.traces.specs.Traces.{Optional, some, none}
 use Rattle.vectors.specs.declared.Vec3.{Vec3}
 use Rattle.vectors.specs.Vectors.{within3}
 use Rattle.motions.specs.declared.Rigid.{Rigid}
@@ -15,21 +14,7 @@ use Rattle.arcs.specs.declared.Arc.{Arc}
 use Rattle.pieces.specs.Entries as pieces
 use Rattle.curves.specs.declared.Curve.{Curve}
 use Rattle.curves.specs.declared.Curve.TheVariants as curve
-use Rattle.curves.specs.declared.CurveAnswer.{CurveAnswer}
-use Rattle.curves.specs.declared.CurveAnswer.TheVariants as answer
-use Rattle.curves.specs.declared.CurveArcAnswer.{CurveArcAnswer}
-use Rattle.curves.specs.declared.CurveArcAnswer.TheVariants as curve_arc
 use Rattle.curves.specs.Curves.{reversed_c, moved_c, arc_of, points_c}
-
--- ---- what the code's answers say
-abbrev pub curve_due : CurveAnswer → Due Curve
-curve_due (answer.Value c) = due c
-curve_due (answer.Refused n) = refused n
-
-abbrev pub curve_arc_due : CurveArcAnswer → Due (Optional Arc)
-curve_arc_due (curve_arc.Value a) = due (some a)
-curve_arc_due curve_arc.Nothing = due none
-curve_arc_due (curve_arc.Refused n) = refused n
 
 -- ---- what is tried
 -- the number of the test that a curve fails first
@@ -47,7 +32,7 @@ unfoldable pub moved_due : Curve → Rigid → Due Curve
 moved_due c m = passing (fails OUT_OF_RANGE (within_rigid m) or tests c) (answered (moved_c c m))
 
 -- `Curve::arc`
-unfoldable pub arc_due : Curve → Due (Optional Arc)
+unfoldable pub arc_due : Curve → Due (Option Arc)
 arc_due c = passing (tests c) (due (arc_of c))
 
 -- ---- `Curve::extend_bounds`

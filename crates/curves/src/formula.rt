@@ -1,62 +1,34 @@
 // A curve's formulas on numbers of any size: those of its arc or of its piece.
 ghost use Rattle.std.specs.Prelude.{◌≡◌};
+ghost use Rattle.checked.specs.Checked.{answered};
+ghost use Rattle.checked.specs.Told.{told};
 ghost use Rattle.curves.specs.Curves.{reversed_c, moved_c};
 
 use crate::parts::{moved_arc, moved_piece};
-use crate::{CheckedCurve, Curve, RolledAt};
+use crate::{Curve, RolledAt};
+use checked::Refusal;
 use motions::Rigid;
 
-pub fn reversed(c: Curve) -> CheckedCurve
-    ensures refusal { result.refusal ≡ (reversed_c c).refusal }
-    ensures value { result.value ≡ (reversed_c c).value }
+pub fn reversed(c: Curve) -> Result<Curve, Refusal>
+    ensures { told result ≡ answered (reversed_c c) }
 {
     match c {
-        Curve::Arc(a) => {
-            let x = arcs::formula::reversed(a);
-            let v = x.value;
-            CheckedCurve {
-                refusal: x.refusal,
-                value: Curve::Arc(v),
-            }
-        }
-        Curve::Rolled(w) => {
-            let p = w.piece;
-            let q = pieces::formula::reversed(p);
-            CheckedCurve {
-                refusal: 0,
-                value: Curve::Rolled(RolledAt {
-                    piece: q,
-                    radius: w.radius,
-                }),
-            }
-        }
+        Curve::Arc(a) => Ok(Curve::Arc(arcs::formula::reversed(a)?)),
+        Curve::Rolled(w) => Ok(Curve::Rolled(RolledAt {
+            piece: pieces::formula::reversed(w.piece),
+            radius: w.radius,
+        })),
     }
 }
 
-pub fn moved(c: Curve, m: Rigid) -> CheckedCurve
-    ensures refusal { result.refusal ≡ (moved_c c m).refusal }
-    ensures value { result.value ≡ (moved_c c m).value }
+pub fn moved(c: Curve, m: Rigid) -> Result<Curve, Refusal>
+    ensures { told result ≡ answered (moved_c c m) }
 {
     match c {
-        Curve::Arc(a) => {
-            let x = moved_arc(a, m);
-            let v = x.value;
-            CheckedCurve {
-                refusal: x.refusal,
-                value: Curve::Arc(v),
-            }
-        }
-        Curve::Rolled(w) => {
-            let p = w.piece;
-            let x = moved_piece(p, m);
-            let q = x.value;
-            CheckedCurve {
-                refusal: x.refusal,
-                value: Curve::Rolled(RolledAt {
-                    piece: q,
-                    radius: w.radius,
-                }),
-            }
-        }
+        Curve::Arc(a) => Ok(Curve::Arc(moved_arc(a, m)?)),
+        Curve::Rolled(w) => Ok(Curve::Rolled(RolledAt {
+            piece: moved_piece(w.piece, m)?,
+            radius: w.radius,
+        })),
     }
 }

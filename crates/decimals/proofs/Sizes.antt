@@ -6,15 +6,24 @@ use Prim.Native.Nat.{ℕ, zero, suc, ◌+◌, ◌-◌, ◌*◌, ◌/◌, ◌%◌
 use native.Mathlib.Nat.{le_trans, lt_of_lt_of_le, le-add_right, mul_comm, mul_assoc, mul_left_comm, mul-one, mul-le-mul_left, mul-le-mul_right, mul-lt-mul_of_pos_right, add-div_right, div-div-eq-div-mul, div-eq_of_lt, le-div_iff_mul-le}
 use native.Mathlib.Omega.{arith}
 use lib.Dec.{T, leb, eqb, eqb→eq, not_T, lit≤}
-use borrow.Author.Tests.{le-leb, lt-leb}
+use borrow.Author.Tests.{le-leb, lt-leb, leb-true, leb-false}
 use lib.Pow.{pow-add, pow_pos, pow_mono}
 use lib.Ieee.{Float, nan, inf, fin, binary64, up, down, odd, of_fields, of_bits, to_bits, fits}
 use lib.Ieee.Fits.{down_pos}
 use lib.Ieee.Bits.{of_bits-to_bits, cond_no}
 use lib.Ieee.Exact.{HasValue, odd_sign}
 use lib.Ieee.Nearest.{div_same}
+use lib.IntN.{ℤ, pos, negsuc, ◌-ℤ◌, +ℤ_idl}
+use mir.Syntax.{w64}
+use mir.Val.{SFits, to_z, of_z}
+use Rattle.std.proofs.Math.Facts.{to_z_pos, to_z-of_z}
 use Rattle.checked.specs.Refusals.{COUNT_TOO_LARGE}
-use Rattle.checked.specs.Checked.{due, refused}
+use Rattle.checked.specs.Checked.{Due, due, refused}
+use Rattle.checked.specs.Tests.{fails}
+use Rattle.checked.specs.TestsLaws.{holds, never}
+use Rattle.checked.specs.Told.{number}
+use Rattle.checked.specs.ToldLaws.{number_some}
+use Rattle.checked.specs.declared.Refusal.{Refusal}
 use Rattle.decimals.specs.Thousandths.{nearest_up, signed, counted, most, thousandths}
 
 -- ---- the nearest whole number: twice the fraction, cut, tells it
@@ -167,3 +176,54 @@ module _ (x : Float) (F : T (fits binary64 x)) (b size : ℕ) (is : b ≡ to_bit
 
     pub many : most < size → refused COUNT_TOO_LARGE ≡ thousandths x
     many h = over (leb (2 ^ 63) b) size h ∙ answer
+
+-- ---- the test of the size
+pub printed : (n : ℕ) → 0 ≡ fails COUNT_TOO_LARGE (leb n most) → n ≤ most
+printed n h = leb-true n most (holds 9 (leb n most) (sym h))
+
+pub above_most : (n : ℕ) (r : Refusal) → number r ≡ fails COUNT_TOO_LARGE (leb n most) → (most < n) × (COUNT_TOO_LARGE ≡ number r)
+unfolding fails
+above_most n r h = by (leb n most) refl h
+  where
+    by : (b : Bool) → leb n most ≡ b → number r ≡ cond b 0 COUNT_TOO_LARGE → (most < n) × (COUNT_TOO_LARGE ≡ number r)
+    by true e g = absurd (number_some r g)
+    by false e g = (leb-false n most e, sym g)
+
+-- ---- a size that is printed, with its sign in 64 bits
+pub plus_is : (n : ℕ) → n ≤ most → to_z w64 n ≡ pos n
+plus_is n h = to_z_pos w64 (omega arith)
+
+negated : (n : ℕ) → pos 0 -ℤ pos n ≡ signed true n
+unfolding signed
+negated zero = refl
+negated (suc k) = +ℤ_idl (negsuc k)
+
+minus_signed : (n : ℕ) → n ≤ most → pos 0 -ℤ to_z w64 n ≡ signed true n
+minus_signed n h = ap (λ (z : ℤ). pos 0 -ℤ z) (plus_is n h) ∙ negated n
+
+signed_fits : (s : Bool) (n : ℕ) → n ≤ most → SFits w64 (signed s n)
+unfolding signed
+signed_fits true zero h = omega arith
+signed_fits true (suc k) h = omega arith
+signed_fits false n h = omega arith
+
+pub minus_fits : (n : ℕ) → n ≤ most → SFits w64 (pos 0 -ℤ to_z w64 n)
+minus_fits n h = subst (λ (z : ℤ). SFits w64 z) (sym (minus_signed n h)) (signed_fits true n h)
+
+pub minus_is : (n : ℕ) → n ≤ most → to_z w64 (of_z w64 (pos 0 -ℤ to_z w64 n)) ≡ signed true n
+minus_is n h = to_z-of_z (minus_fits n h) ∙ minus_signed n h
+
+-- whatever the thousandths are, 64 bits hold them
+whole : Due ℤ → ℤ
+whole (due z) = z
+whole (refused n) = pos 0
+
+pub thousandths_fit : (x : Float) (z : ℤ) → due z ≡ thousandths x → SFits w64 z
+unfolding thousandths whole
+thousandths_fit nan z e = absurd (never _ z (sym e))
+thousandths_fit (inf s) z e = absurd (never _ z (sym e))
+thousandths_fit (fin s m k) z e = by (nearest_up (1000 * (m * up k)) (down k)) (leb (nearest_up (1000 * (m * up k)) (down k)) most) refl e
+  where
+    by : (size : ℕ) (b : Bool) → leb size most ≡ b → due z ≡ cond b (due (signed s size)) (refused COUNT_TOO_LARGE) → SFits w64 z
+    by size true l h = subst (λ (y : ℤ). SFits w64 y) (sym (ap whole h)) (signed_fits s size (leb-true size most l))
+    by size false l h = absurd (never _ z (sym h))

@@ -3,8 +3,7 @@ use Rattle.std.specs.Prelude.{ℕ, zero, suc, ◌+◌, ◌*◌, ◌/◌, ◌^◌
 use Rattle.std.specs.Float.{nan, inf, fin}
 use Rattle.std.specs.Float.Ieee.{up, down}
 use Rattle.checked.specs.Refusals.{COUNT_TOO_LARGE}
-use Rattle.checked.specs.Checked.{Due, due, refused, settled}
-use Rattle.decimals.specs.declared.CheckedWhole.{CheckedWhole}
+use Rattle.checked.specs.Checked.{Due, due, refused}
 
 -- the whole number nearest to n / d; a half goes up
 abbrev pub nearest_up : ℕ → ℕ → ℕ
@@ -29,7 +28,3 @@ unfoldable pub thousandths : Float → Due ℤ
 thousandths nan = refused COUNT_TOO_LARGE
 thousandths (inf s) = refused COUNT_TOO_LARGE
 thousandths (fin s m e) = counted s (nearest_up (1000 * (m * up e)) (down e))
-
--- what the code's answer says
-abbrev pub whole_due : CheckedWhole → Due ℤ
-whole_due w = settled w.refusal (signed w.is_negative w.size)

@@ -4,19 +4,14 @@
 ghost use Rattle.std.specs.Prelude.{◌≡◌, Bool, ◌/◌, ◌%◌, ◌^◌, ◌<◌, length, drop};
 ghost use Rattle.std.specs.Float.{binary64};
 ghost use Rattle.std.specs.Float.Ieee.{of_fields};
+ghost use Rattle.checked.specs.Told.{told};
 ghost use Rattle.decimals.specs.Thousandths as Thousandths;
 ghost use Rattle.decimals.specs.Digits as Digits;
 
+use checked::{Refusal, require};
+
 // The most thousandths that are printed, in magnitude.
 const MOST: u64 = 1_000_000_000;
-
-// A whole number as a sign and a size, with the refusal of one that is too large; 0 is none.
-#[derive(Clone, Copy)]
-pub struct CheckedWhole {
-    pub refusal: u8,
-    pub is_negative: bool,
-    pub size: u64,
-}
 
 // The whole thousandths of the magnitude whose bit pattern is b, nearest, a half going up. The significand m has 53 binary digits and
 // stands for m / 2^(1075 - field), so that the thousandths, doubled and cut, are 1000 * m >> (1074 - field). Below the field 1012 nothing
@@ -37,31 +32,24 @@ fn size_of(b: u64) -> u64
 }
 
 // The whole thousandths nearest to x, worked out from its exact value; a half goes away from zero.
-pub fn thousandths(x: f64) -> CheckedWhole
-    ensures { Thousandths.whole_due result ≡ Thousandths.thousandths x }
+pub fn thousandths(x: f64) -> Result<i64, Refusal>
+    ensures { told result ≡ Thousandths.thousandths x }
 {
     let b = checked::bits(x);
-    let is_negative = b >= 0x8000_0000_0000_0000;
     let size = size_of(b % 0x8000_0000_0000_0000);
-    if size <= MOST {
-        CheckedWhole {
-            refusal: 0,
-            is_negative,
-            size,
-        }
+    require(size <= MOST, Refusal::CountTooLarge)?;
+    if b >= 0x8000_0000_0000_0000 {
+        Ok(-(size as i64))
     } else {
-        CheckedWhole {
-            refusal: checked::COUNT_TOO_LARGE,
-            is_negative,
-            size,
-        }
+        Ok(size as i64)
     }
 }
 
 // Puts the decimal digits of n at the end of out, and answers where they begin.
 pub fn digits(n: u64, out: &mut [u8; 20]) -> usize
-    ensures out_after { drop result out.new ≡ Digits.digits n }
-    ensures upper_bound { (result < 20) × (length out.new ≡ 20) }
+    ensures text { drop result out.new ≡ Digits.digits n }
+    ensures start { result < 20 }
+    ensures room { length out.new ≡ 20 }
 {
     spell(n, out)
 }
@@ -69,8 +57,9 @@ pub fn digits(n: u64, out: &mut [u8; 20]) -> usize
 // The same at a slice: the last digit, and then those of what is left without it.
 fn spell(n: u64, out: &mut [u8]) -> usize
     requires { length out.old ≡ 20 }
-    ensures out_after { drop result out.new ≡ Digits.digits n }
-    ensures upper_bound { (result < 20) × (length out.new ≡ 20) }
+    ensures text { drop result out.new ≡ Digits.digits n }
+    ensures start { result < 20 }
+    ensures room { length out.new ≡ 20 }
 {
     let mut i = 19;
     let mut rest = n / 10;

@@ -1,7 +1,7 @@
 -- The development of a cylinder, and what its entries are due to answer.
 use Rattle.std.specs.Prelude.{Bool, ◌&&◌, Float}
 use Rattle.checked.specs.Refusals.{OUT_OF_RANGE}
-use Rattle.checked.specs.Checked.{Checked, ◌>>=◌, given, within, Due, due, refused, answered}
+use Rattle.checked.specs.Checked.{Checked, ◌>>=◌, given, within, Due, answered}
 use Rattle.checked.specs.Tests.{fails, ◌or◌, passing, neutral_test}
 use Rattle.motions.specs.declared.Rigid.{Rigid}
 use Rattle.motions.specs.Motions.{within_rigid, apply_c, apply_vector_c}
@@ -11,19 +11,6 @@ use Rattle.vectors.specs.Vectors.{within2, within3}
 use Rattle.developments.specs.declared.formulas.Unrolled.{Unrolled}
 use Rattle.developments.specs.Formulas.{radial_at_c, point_c, along_c, unroll_c}
 use Rattle.developments.specs.declared.Development.{Development}
-use Rattle.developments.specs.declared.UnrolledAnswer.{UnrolledAnswer}
-use Rattle.developments.specs.declared.UnrolledAnswer.TheVariants as unrolled_point
-use Rattle.developments.specs.declared.DevelopmentAnswer.{DevelopmentAnswer}
-use Rattle.developments.specs.declared.DevelopmentAnswer.TheVariants as moved_development
-
--- ---- what the code's answers say
-abbrev pub unrolled_due : UnrolledAnswer → Due Unrolled
-unrolled_due (unrolled_point.Value v) = due v
-unrolled_due (unrolled_point.Refused n) = refused n
-
-abbrev pub development_due : DevelopmentAnswer → Due Development
-development_due (moved_development.Value v) = due v
-development_due (moved_development.Refused n) = refused n
 
 -- the development moved by m
 unfoldable pub moved_c : Development → Rigid → Checked Development

@@ -1,11 +1,13 @@
-// The formulas on numbers of any size. A length or a part across an axis that is not finite is for the caller to note.
+// The formulas on numbers of any size. A length or a part across an axis that is not finite is for the caller to try.
 ghost use Rattle.std.specs.Prelude.{◌≡◌};
+ghost use Rattle.checked.specs.Checked.{answered};
+ghost use Rattle.checked.specs.Told.{told};
 ghost use Rattle.directions.specs.Directions.{length_c, over_length_c, unit_c, across_c, radial_c};
 
-use checked::note;
+use checked::{Refusal, finite};
 use rounding::sqrt;
-use vectors::formula::{dot, minus, noted, times};
-use vectors::{CheckedVec3, Vec3};
+use vectors::Vec3;
+use vectors::formula::{dot, finite3, minus, times};
 
 // The length of a vector.
 pub fn length(v: Vec3) -> f64
@@ -15,22 +17,16 @@ pub fn length(v: Vec3) -> f64
 }
 
 // A vector over its length, where the Rust does not call `unit`.
-pub fn over_length(v: Vec3) -> CheckedVec3
-    ensures refusal { result.refusal ≡ (over_length_c v).refusal }
-    ensures value { result.value ≡ (over_length_c v).value }
+pub fn over_length(v: Vec3) -> Result<Vec3, Refusal>
+    ensures { told result ≡ answered (over_length_c v) }
 {
-    let l = length(v);
-    let u = times(v, 1.0 / l);
-    CheckedVec3 {
-        refusal: noted(u, note(0, l)),
-        value: u,
-    }
+    let l = finite(length(v))?;
+    finite3(times(v, 1.0 / l))
 }
 
 // The vector of length 1 along v.
-pub fn unit(v: Vec3) -> CheckedVec3
-    ensures refusal { result.refusal ≡ (unit_c v).refusal }
-    ensures value { result.value ≡ (unit_c v).value }
+pub fn unit(v: Vec3) -> Result<Vec3, Refusal>
+    ensures { told result ≡ answered (unit_c v) }
 {
     over_length(v)
 }
@@ -43,9 +39,8 @@ pub fn across(axis: Vec3, d: Vec3) -> Vec3
 }
 
 // The unit vector from the axis through `origin` along `axis` towards p.
-pub fn radial(origin: Vec3, axis: Vec3, p: Vec3) -> CheckedVec3
-    ensures refusal { result.refusal ≡ (radial_c origin axis p).refusal }
-    ensures value { result.value ≡ (radial_c origin axis p).value }
+pub fn radial(origin: Vec3, axis: Vec3, p: Vec3) -> Result<Vec3, Refusal>
+    ensures { told result ≡ answered (radial_c origin axis p) }
 {
     unit(across(axis, minus(p, origin)))
 }

@@ -2,22 +2,18 @@
 #![tactic(auto)]
 
 ghost use Rattle.std.specs.Prelude.{◌≡◌};
-ghost use Rattle.vectors.specs.Entries.{vector_due};
+ghost use Rattle.checked.specs.Told.{told};
 ghost use Rattle.directions.specs.Directions.{unit_due};
 
-use checked::{OUT_OF_RANGE, fails};
-use vectors::{Vec3, VectorAnswer, is_within3, settle};
+use checked::{Refusal, require};
+use vectors::{Vec3, is_within3};
 
 pub mod formula;
 
 // The vector of length 1 along v.
-pub fn unit(v: Vec3) -> VectorAnswer
-    ensures { vector_due result ≡ unit_due v }
+pub fn unit(v: Vec3) -> Result<Vec3, Refusal>
+    ensures { told result ≡ unit_due v }
 {
-    let t = fails(OUT_OF_RANGE, is_within3(v));
-    if t == 0 {
-        settle(formula::unit(v))
-    } else {
-        VectorAnswer::Refused(t)
-    }
+    require(is_within3(v), Refusal::OutOfRange)?;
+    formula::unit(v)
 }

@@ -3,299 +3,187 @@
 //
 // A line of the input has a name and a colon, then, each after a space, a letter, two numbers of
 // six hexadecimal digits and the bytes of a file. The letter says in what the files from the first
-// number up to the second, which is not one of them, differ:
-//
-//     w  in nothing: it is one file
-//     c  in how many of its bytes are there
-//     t  in the tag of the first record
-//     l  in the length that the first record announces
-//     p  in which number of the first record, counted from 1, has the pattern of the last eight
-//        bytes, which do not belong to the file
+// number up to the second, which is not one of them, differ: a `Difference`.
 #![tactic(auto)]
 
-ghost use Rattle.std.specs.Prelude.{◌≤◌, ◌<◌, length, IfOk};
+ghost use Rattle.std.specs.Prelude.{◌<◌, IfSome};
 
 use edge_file::Reading;
+use std::alloc::Global;
 use std::io;
-use std::io::Read;
 
-// Room for two arcs and two ends.
-const ROOM: usize = 220;
-
-// The bytes of a file stand at the start of the array.
-#[derive(Clone, Copy)]
-struct File {
-    bytes: [u8; 220],
-    size: usize,
+// In what the files of a line differ.
+#[derive(Clone, Copy, Debug, PartialEq, Eq)]
+enum Difference {
+    // In nothing: it is one file.
+    Nothing,
+    // In how many of its bytes are there.
+    Size,
+    // In the tag of the first record.
+    Tag,
+    // In the length that the first record announces.
+    Length,
+    // In which number of the first record, counted from 1, has the pattern of the last eight
+    // bytes, which do not belong to the file.
+    Number,
 }
 
-// What is printed of a file stands at the end of the array.
-#[derive(Clone, Copy)]
-struct Line {
-    text: [u8; 160],
-    at: usize,
+// The files of a line: the first one's bytes, and the numbers of the files.
+#[derive(Drop)]
+struct Files<'a> {
+    name: &'a str,
+    difference: Difference,
+    from: u32,
+    to: u32,
+    bytes: Vec<u8>,
+}
+
+fn difference_of(letter: &str) -> Option<Difference> {
+    match letter {
+        "w" => Some(Difference::Nothing),
+        "c" => Some(Difference::Size),
+        "t" => Some(Difference::Tag),
+        "l" => Some(Difference::Length),
+        "p" => Some(Difference::Number),
+        _ => None,
+    }
 }
 
 // The value of a hexadecimal digit.
-fn digit(b: u8) -> usize
-    ensures { result < 16 }
+fn digit(b: u8) -> Option<u8>
+    ensures { IfSome result (λ d. d < 16) }
 {
-    if b < 97 {
-        (b % 16) as usize
-    } else {
-        ((b - 87) % 16) as usize
+    match b {
+        b'0'..=b'9' => Some(b - b'0'),
+        b'a'..=b'f' => Some(b - b'a' + 10),
+        _ => None,
     }
 }
 
-// The number that two digits spell; 0 where they are not there.
-fn pair(line: &[u8], at: usize) -> usize
-    ensures { result < 256 }
-{
-    if at < line.len() {
-        if at + 1 < line.len() {
-            return 16 * digit(line[at]) + digit(line[at + 1]);
+// The bytes that a word's digits spell, two each, put behind others.
+fn put_bytes(bytes: &mut Vec<u8>, word: &str) -> io::Result<()> {
+    for pair in word.as_bytes().chunks_exact(2) {
+        if let (Some(high), Some(low)) = (digit(pair[0]), digit(pair[1])) {
+            bytes.push(16 * high + low)?;
         }
-    }
-    0
-}
-
-// The number that six digits spell.
-fn number(line: &[u8]) -> usize {
-    0x10000 * pair(line, 0) + 0x100 * pair(line, 2) + pair(line, 4)
-}
-
-// The bytes of a file; those past the room are left out.
-fn file_of(line: &[u8]) -> File {
-    let mut bytes = [0u8; 220];
-    let mut size = 0;
-    let mut at = 0;
-    while at < line.len() {
-        if line[at] == b' ' {
-            at += 1;
-        } else {
-            if size < ROOM {
-                bytes[size] = pair(line, at) as u8;
-                size += 1;
-            }
-            if at + 1 < line.len() {
-                at += 2;
-            } else {
-                at += 1;
-            }
-        }
-    }
-    File { bytes, size }
-}
-
-// The bytes with the eight from `from` on put at `to`.
-fn moved(mut bytes: [u8; 220], from: usize, to: usize) -> [u8; 220] {
-    let mut i = 0;
-    while i < 8 {
-        if from < ROOM - i {
-            if to < ROOM - i {
-                bytes[to + i] = bytes[from + i];
-            }
-        }
-        i += 1;
-    }
-    bytes
-}
-
-// The file where the first record's number n has the pattern of the last eight bytes.
-fn with_number(file: File, n: usize) -> File {
-    let bytes = file.bytes;
-    let size = file.size;
-    if size < 8 {
-        return file;
-    }
-    if n == 0 {
-        return file;
-    }
-    if n > 13 {
-        return file;
-    }
-    File {
-        bytes: moved(bytes, size - 8, 8 * n - 5),
-        size: size - 8,
-    }
-}
-
-// The file that a letter and a number make of one.
-fn changed(file: File, letter: u8, n: usize) -> File {
-    let mut bytes = file.bytes;
-    let size = file.size;
-    let low = (n % 0x100) as u8;
-    let high = (n / 0x100 % 0x100) as u8;
-    if letter == b'c' {
-        File { bytes, size: n }
-    } else if letter == b't' {
-        bytes[0] = low;
-        File { bytes, size }
-    } else if letter == b'l' {
-        bytes[1] = low;
-        bytes[2] = high;
-        File { bytes, size }
-    } else if letter == b'p' {
-        with_number(file, n)
-    } else {
-        file
-    }
-}
-
-// What is printed of a file of the first bytes.
-fn line_of(bytes: &[u8], size: usize) -> Line {
-    let mut text = [0u8; 160];
-    let taken = if size <= bytes.len() {
-        Reading::begun().feed(&bytes[0..size])
-    } else {
-        Reading::begun().feed(bytes)
-    };
-    let at = taken.reading.finish(&mut text);
-    Line { text, at }
-}
-
-fn line_at(file: File, letter: u8, n: usize) -> Line {
-    let one = changed(file, letter, n);
-    let bytes = one.bytes;
-    let size = one.size;
-    line_of(&bytes, size)
-}
-
-fn same_from(a: &[u8], i: usize, b: &[u8], j: usize) -> bool {
-    if i <= a.len() {
-        if j <= b.len() {
-            return &a[i..] == &b[j..];
-        }
-    }
-    false
-}
-
-fn is_same(a: Line, b: Line) -> bool {
-    let text = a.text;
-    let other = b.text;
-    let at = a.at;
-    let from = b.at;
-    same_from(&text, at, &other, from)
-}
-
-fn write_from(rt: &impl Print, text: &[u8], at: usize) -> io::Result<()> {
-    if at <= text.len() {
-        rt.write_all(&text[at..])?;
     }
     Ok(())
+}
+
+// What a line names, where it is one of files.
+fn files_of<'a>(alloc: Global, line: &'a str) -> io::Result<Option<Files<'a>>> {
+    let Some((name, rest)) = line.split_once(':') else {
+        return Ok(None);
+    };
+    let mut words = rest.split_ascii_whitespace();
+    let Some(difference) = words.next().and_then(difference_of) else {
+        return Ok(None);
+    };
+    let from = number_of(words.next());
+    let to = number_of(words.next());
+    let mut bytes = Vec::new(alloc);
+    for word in words {
+        put_bytes(&mut bytes, word)?;
+    }
+    Ok(Some(Files {
+        name,
+        difference,
+        from,
+        to,
+        bytes,
+    }))
+}
+
+// The number that hexadecimal digits spell; 0 where there are none.
+fn number_of(word: Option<&str>) -> u32 {
+    match word {
+        Some(digits) => u32::from_str_radix(digits, 16).unwrap_or(0),
+        None => 0,
+    }
+}
+
+// The file without its last eight bytes, which are put where its first record has the number n.
+fn with_number(bytes: &mut Vec<u8>, n: usize) {
+    if let Some(last) = bytes.last_chunk::<8>().copied() {
+        bytes.truncate(bytes.len() - 8);
+        if n >= 1 && n <= 13 {
+            let at = 8 * n - 5;
+            if at + 8 <= bytes.len() {
+                bytes[at..at + 8].copy_from_slice(&last);
+            }
+        }
+    }
+}
+
+// The file n of a line.
+fn file_at(files: &Files, n: u32) -> io::Result<Vec<u8>> {
+    let mut bytes = files.bytes.clone()?;
+    let [low, high, ..] = n.to_le_bytes();
+    match files.difference {
+        Difference::Nothing => {}
+        Difference::Size => bytes.truncate(n as usize),
+        Difference::Tag => {
+            if let Some(tag) = bytes.first_mut() {
+                *tag = low;
+            }
+        }
+        Difference::Length => {
+            if bytes.len() >= 3 {
+                bytes[1..3].copy_from_slice(&[low, high]);
+            }
+        }
+        Difference::Number => with_number(&mut bytes, n as usize),
+    }
+    Ok(bytes)
+}
+
+// What is printed of a file.
+fn line_of(alloc: Global, file: &[u8]) -> io::Result<Vec<u8>> {
+    let mut text = [0u8; 160];
+    let at = Reading::begun().feed(file).reading.finish(&mut text);
+    Ok(Vec::from_slice(alloc, &text[at..])?)
 }
 
 // Files with the same line, from the first one up to `end`, which is not one of them.
-fn tell(
-    rt: &impl Print,
-    name: &[u8],
-    letter: u8,
-    first: usize,
-    end: usize,
-    line: Line,
-) -> io::Result<()> {
-    let text = line.text;
-    let at = line.at;
+fn tell(rt: &impl Print, files: &Files, first: u32, end: u32, line: &[u8]) -> io::Result<()> {
     if first < end {
         let last = end - 1;
-        rt.write_all(name)?;
-        if letter != b'w' {
+        print!(rt; "{}", files.name)?;
+        if files.difference != Difference::Nothing {
             print!(rt; " {first}")?;
         }
         if first < last {
-            let files = end - first;
-            print!(rt; " to {last}, {files} files")?;
+            let count = end - first;
+            print!(rt; " to {last}, {count} files")?;
         }
         print!(rt; ": ")?;
-        write_from(rt, &text, at)?;
+        rt.write_all(line)?;
     }
     Ok(())
 }
 
-// Each file of a list, from one number up to another.
-fn tell_all(
-    rt: &impl Print,
-    name: &[u8],
-    file: File,
-    letter: u8,
-    from: usize,
-    to: usize,
-) -> io::Result<()> {
-    let mut first = from;
-    let mut line = line_at(file, letter, from);
-    let mut n = from;
-    while n < to {
-        let next = line_at(file, letter, n);
-        if !is_same(next, line) {
-            tell(rt, name, letter, first, n, line)?;
+// Each file of a line.
+fn tell_all(rt: &impl Print, alloc: Global, files: &Files) -> io::Result<()> {
+    let mut first = files.from;
+    let mut line = line_of(alloc, &file_at(files, first)?)?;
+    for n in files.from..files.to {
+        let next = line_of(alloc, &file_at(files, n)?)?;
+        if next != line {
+            tell(rt, files, first, n, &line)?;
             first = n;
             line = next;
         }
-        n += 1;
     }
-    tell(rt, name, letter, first, n, line)
-}
-
-// Where a byte stands first from some place on, or the end of the text.
-fn find(text: &[u8], from: usize, byte: u8) -> usize
-    requires { from ≤ length text.now }
-    ensures { (from ≤ result) × (result ≤ length text.now) }
-{
-    let mut at = from;
-    while at < text.len() {
-        if text[at] == byte {
-            return at;
-        }
-        at += 1;
-    }
-    at
-}
-
-// The files of a line.
-fn tell_line(rt: &impl Print, line: &[u8]) -> io::Result<()> {
-    let colon = find(line, 0, b':');
-    if line.len() - colon >= 17 {
-        let letter = line[colon + 2];
-        let from = number(&line[colon + 4..]);
-        let to = number(&line[colon + 11..]);
-        let file = file_of(&line[colon + 17..]);
-        tell_all(rt, &line[0..colon], file, letter, from, to)?;
-    }
-    Ok(())
-}
-
-fn tell_lines(rt: &impl Print, text: &[u8]) -> io::Result<()> {
-    let mut at = 0;
-    while at < text.len() {
-        let end = find(text, at, b'\n');
-        tell_line(rt, &text[at..end])?;
-        if end < text.len() {
-            at = end + 1;
-        } else {
-            at = end;
-        }
-    }
-    Ok(())
-}
-
-// Reads until the buffer is full or the input is over, and says how many bytes it put at the
-// buffer's start.
-fn read_full<R: Read>(input: &mut R, buf: &mut [u8]) -> io::Result<usize>
-    ensures { IfOk result (λ n. n ≤ length buf.new) }
-{
-    let mut done = 0;
-    while done < buf.len() {
-        let n = input.read(&mut buf[done..])?;
-        if n == 0 {
-            break;
-        }
-        done += n;
-    }
-    Ok(done)
+    tell(rt, files, first, files.to, &line)
 }
 
 fn main(rt: HostRuntime) -> io::Result<()> {
-    let mut text = [0u8; 65536];
-    let size = read_full(&mut rt.stdin(), &mut text)?;
-    tell_lines(&rt, &text[..size])
+    let alloc = rt.alloc();
+    let text = io::read_to_string(alloc, rt.stdin())?;
+    for line in text.lines() {
+        if let Some(files) = files_of(alloc, line)? {
+            tell_all(&rt, alloc, &files)?;
+        }
+    }
+    Ok(())
 }

@@ -5,16 +5,13 @@
 use Rattle.std.specs.Prelude.{ℕ, zero, suc, ◌≤◌, Bool, true, List, [], ◌∷◌, ◌++◌, T, eqb, take, drop}
 use Rattle.std.proofs.Math.Bool.{false}
 use Rattle.edge_records.specs.Records.{size_of, shortest}
-use Rattle.edge_file.specs.declared.Status.{Status}
-use Rattle.edge_file.specs.declared.Status.TheVariants as status
-use Rattle.edge_file.specs.declared.Reading.{Reading}
-use Rattle.edge_file.specs.Steps.{line_on, step, is_refused, Fed}
+use Rattle.edge_file.specs.Steps.{State, Stand, Open, Ended, Refused, line_on, step, is_refused, Fed}
 
 -- ---- after a step the reading is open only where the step took an edge's record
-abbrev pub OpenAfter : Status → ℕ → Type 0
-OpenAfter status.Open n = shortest ≤ n
-OpenAfter status.Ended n = Unit {0}
-OpenAfter (status.Refused m) n = Unit {0}
+abbrev pub OpenAfter : Stand → ℕ → Type 0
+OpenAfter Open n = shortest ≤ n
+OpenAfter Ended n = Unit {0}
+OpenAfter (Refused m) n = Unit {0}
 
 -- ---- step by step: the records that a file is cut into, at most n of them, and last what is left
 -- where no record stands whole
@@ -27,7 +24,7 @@ records_of zero file = []
 records_of (suc n) [] = []
 records_of (suc n) (b ∷ bs) = cut_off (eqb (size_of (b ∷ bs)) 0) (size_of (b ∷ bs)) (b ∷ bs) (records_of n)
 
-unfoldable pub steps : Reading → List (List ℕ) → Reading
+unfoldable pub steps : State → List (List ℕ) → State
 steps r [] = r
 steps r (p ∷ ps) = steps (step r p) ps
 
@@ -37,7 +34,7 @@ unfoldable pub joined : List (List ℕ) → List ℕ
 joined [] = []
 joined (p ∷ ps) = p ++ joined ps
 
-pub data Run : Reading → List ℕ → List (List ℕ) → List ℕ → Type 0 where
-  over : {r : Reading} {left : List ℕ} → Run r left [] (line_on r [])
-  stops : {r : Reading} {left : List ℕ} {pieces : List (List ℕ)} → T (is_refused r) → Run r left pieces (line_on r [])
-  more : {r q : Reading} {left piece line : List ℕ} {used : ℕ} {pieces : List (List ℕ)} → Fed r (left ++ piece) q used → Run q (drop used (left ++ piece)) pieces line → Run r left (piece ∷ pieces) line
+pub data Run : State → List ℕ → List (List ℕ) → List ℕ → Type 0 where
+  over : {r : State} {left : List ℕ} → Run r left [] (line_on r [])
+  stops : {r : State} {left : List ℕ} {pieces : List (List ℕ)} → T (is_refused r) → Run r left pieces (line_on r [])
+  more : {r q : State} {left piece line : List ℕ} {used : ℕ} {pieces : List (List ℕ)} → Fed r (left ++ piece) q used → Run q (drop used (left ++ piece)) pieces line → Run r left (piece ∷ pieces) line

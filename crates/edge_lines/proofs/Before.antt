@@ -1,65 +1,56 @@
 -- Texts that are put before what stands in a buffer. Assumes nothing.
 use mathlib.Core.Path.{◌≡◌, refl, sym, ap, ◌∙◌}
-use mathlib.Core.Bool.{Bool, true, false, ◌&&◌, true≢false}
+use mathlib.Core.Bool.{true, false, true≢false}
 use mathlib.Core.List.{List, [], ◌∷◌, ◌++◌, append_assoc}
-use Prim.Native.Nat.{ℕ, zero, suc, ◌-◌, ◌≤◌, ◌<◌}
+use Prim.Native.Nat.{ℕ, ◌-◌, ◌≤◌}
 use native.Mathlib.Omega.{arith}
-use lib.ListN.{length, take, drop, set, get_or, drop_of_length-le, length-drop}
-use lib.Seq.{drop-cons, take_all}
-use lib.Dec.{ltb}
-use lib.IntN.{ℤ}
-use borrow.Author.Tests.{ltb-true, ltb-false}
-use Rattle.checked.specs.Checked.{due, settled, first}
+use lib.ListN.{length, take, drop, drop_of_length-le, length-drop}
+use lib.Seq.{take_all, drop-drop}
+use lib.IntN.{ℤ, pos, negsuc, nat_abs}
+use lib.Signed.{lt_z}
+use borrow.Author.Tests.{ltb-true}
+use borrow.Rule.Slice.PartMut.{put_mid}
+use Rattle.std.specs.Prelude.{Result}
+use Rattle.std.specs.Result.{IsErr, IsErrAnd}
+use Rattle.std.proofs.Common.{length-take-le}
+use Rattle.std.proofs.Math.Seq.{drop-append_seam}
+use Rattle.std.proofs.lemmas.Result.{err_from_is_err_and}
+use Rattle.checked.specs.Checked.{refused}
+use Rattle.checked.specs.Told.{number}
+use Rattle.checked.specs.declared.Refusal.{Refusal}
 use Rattle.decimals.specs.Digits.{digits, numeral}
-use Rattle.decimals.specs.Thousandths.{signed}
-use Rattle.decimals.specs.DigitLaws.{drop_set}
-use Rattle.vectors.specs.declared.Vec3.{Vec3}
-use Rattle.edge_lines.specs.Lines.{bytes, spaced, corner, empty_line, refused_line, corners_line, box_line}
+use Rattle.edge_lines.specs.Lines.{bytes, stands, empty_line, refused_line}
 
-back : (k : ℕ) → 0 < k → suc (k - 1) ≡ k
-back k h = omega arith
-
--- nothing is put yet
-pub none : (text tail : List ℕ) → tail ≡ drop (length text) text ++ tail
-none text tail = sym (ap (λ (l : List ℕ). l ++ tail) (drop_of_length-le text {i = length text} (omega arith)))
-
--- one byte more is put
-pub more : (i to : ℕ) (text out tail : List ℕ) → 0 < i → i ≤ length text → 0 < to → to ≤ length out
-    → drop to out ≡ drop i text ++ tail → drop (to - 1) (set out (to - 1) (get_or text (i - 1) 0)) ≡ drop (i - 1) text ++ tail
-more i to text out tail I J O P e =
-    drop_set out (to - 1) (get_or text (i - 1) 0) (omega arith)
-    ∙ ap (λ (k : ℕ). get_or text (i - 1) 0 ∷ drop k out) (back to O)
-    ∙ ap (λ (l : List ℕ). get_or text (i - 1) 0 ∷ l) (e ∙ ap (λ (k : ℕ). drop k text ++ tail) (sym (back i I)))
-    ∙ ap (λ (l : List ℕ). l ++ tail) (sym (drop-cons text (i - 1) 0 (omega arith)))
+-- a text in the place of what stood before `at`
+pub placed : (text out ys : List ℕ) (from at : ℕ) → from ≤ at → at ≤ length out → ys ≡ text → drop from (put_mid from (at - from) out ys) ≡ text ++ drop at out
+placed text out ys from at F A e =
+    past (take from out) from (length-take-le from out (omega arith)) (ys ++ drop (at - from) (drop from out))
+    ∙ ap (λ (l : List ℕ). l ++ drop (at - from) (drop from out)) e
+    ∙ ap (λ (l : List ℕ). text ++ l) (drop-drop (at - from) from out ∙ ap (λ (k : ℕ). drop k out) (omega arith))
+  where
+    past : (xs : List ℕ) (n : ℕ) → length xs ≡ n → (rest : List ℕ) → drop n (xs ++ rest) ≡ rest
+    past xs n l rest = ap (λ (k : ℕ). drop k (xs ++ rest)) (sym l) ∙ drop-append_seam xs rest
 
 -- a part that reaches to the end
 pub to_end : (text digits : List ℕ) (from n : ℕ) → length text ≡ n → drop from text ≡ digits → take (n - from) (drop from text) ≡ digits
 to_end text digits from n long e = take_all (n - from) (drop from text) (omega (arith, length-drop from text)) ∙ e
 
 -- ---- a whole number after a space
-module _ (size : ℕ) (tail : List ℕ) where
-  pub with_minus : (negative : Bool) → (negative && ltb 0 size) ≡ true → 32 ∷ 45 ∷ (digits size ++ tail) ≡ bytes " " ++ numeral (signed negative size) ++ tail
-  with_minus true h = go size (ltb-true 0 size h)
-    where
-      go : (n : ℕ) → 0 < n → 32 ∷ 45 ∷ (digits n ++ tail) ≡ bytes " " ++ numeral (signed true n) ++ tail
-      go zero l = absurd (omega arith)
-      go (suc n) l = unfold bytes numeral signed in refl
-  with_minus false h = absurd (true≢false (sym h))
+pub with_minus : (z : ℤ) (tail : List ℕ) → lt_z z (pos 0) ≡ true → 32 ∷ 45 ∷ (digits (nat_abs z) ++ tail) ≡ bytes " " ++ numeral z ++ tail
+unfolding bytes numeral
+with_minus (pos n) tail h = absurd (let l = ltb-true n 0 h in omega arith)
+with_minus (negsuc n) tail h = refl
 
-  pub without : (negative : Bool) → (negative && ltb 0 size) ≡ false → 32 ∷ (digits size ++ tail) ≡ bytes " " ++ numeral (signed negative size) ++ tail
-  without true h = go size (ltb-false 0 size h)
-    where
-      go : (n : ℕ) → n ≤ 0 → 32 ∷ (digits n ++ tail) ≡ bytes " " ++ numeral (signed true n) ++ tail
-      go zero l = unfold bytes numeral signed in refl
-      go (suc n) l = absurd (omega arith)
-  without false h = unfold bytes numeral signed in refl
+pub without : (z : ℤ) (tail : List ℕ) → lt_z z (pos 0) ≡ false → 32 ∷ (digits (nat_abs z) ++ tail) ≡ bytes " " ++ numeral z ++ tail
+unfolding bytes numeral
+without (pos n) tail h = refl
+without (negsuc n) tail h = absurd (true≢false h)
 
--- ---- the first refusal stands
-pub settles : (r s : ℕ) (z : ℤ) (tail : List ℕ) → settled (first r s) (bytes " " ++ numeral z ++ tail) ≡ spaced (settled r z) (settled s tail)
-unfolding settled first spaced
-settles zero zero z tail = refl
-settles zero (suc s) z tail = refl
-settles (suc r) s z tail = refl
+-- ---- the refusal that a `?` passes on
+pub exit_stands : (answer : Result ℕ Refusal) (r : Refusal) (out : List ℕ) → IsErr answer × IsErrAnd answer (λ e. e ≡ r) → stands answer out ≡ refused (number r)
+exit_stands answer r out h =
+    let e = err_from_is_err_and answer h.1 in
+    ap (λ (a : Result ℕ Refusal). stands a out) e.1 ∙ ap (λ (x : Refusal). refused (number x)) e.2
 
 -- ---- lines
 -- nothing stands at the end of the buffer
@@ -77,13 +68,3 @@ empty_is out n e = ap (λ (l : List ℕ). 101 ∷ 109 ∷ 112 ∷ 116 ∷ 121 �
 pub refused_is : (n k : ℕ) → bytes "refused " ++ (digits n ++ (bytes " record " ++ (digits k ++ bytes "\n"))) ≡ refused_line n k
 unfolding refused_line
 refused_is n k = simp append_assoc
-
-pub box_is : (r : ℕ) (text : List ℕ) (low high : Vec3) (k : ℕ) → r ≡ 0 → settled r text ≡ corner low (corner high (due (bytes "\n"))) → bytes "box" ++ text ≡ box_line low high k
-unfolding box_line settled
-box_is zero text low high k e h = ap (corners_line k) h
-box_is (suc r) text low high k e h = absurd (omega arith)
-
-pub box_refused : (r : ℕ) (text : List ℕ) (low high : Vec3) (k : ℕ) → (r ≡ 0 → ⊥) → settled r text ≡ corner low (corner high (due (bytes "\n"))) → refused_line r k ≡ box_line low high k
-unfolding box_line settled
-box_refused zero text low high k n h = absurd (n refl)
-box_refused (suc r) text low high k n h = ap (corners_line k) h

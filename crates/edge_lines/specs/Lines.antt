@@ -1,8 +1,10 @@
 -- The line that the program prints, as bytes.
-use Rattle.std.specs.Prelude.{ℕ, List, [], ◌∷◌, ◌++◌, ℤ}
+use Rattle.std.specs.Prelude.{ℕ, List, [], ◌∷◌, ◌++◌, ℤ, drop, Result, Ok, Err}
 use Prim.Native.Char.{code}
 use Prim.Native.String.{String}
 use Rattle.checked.specs.Checked.{Due, due, refused}
+use Rattle.checked.specs.Told.{number}
+use Rattle.checked.specs.declared.Refusal.{Refusal}
 use Rattle.decimals.specs.Thousandths.{thousandths}
 use Rattle.decimals.specs.Digits.{digits, numeral}
 use Rattle.vectors.specs.declared.Vec3.{Vec3}
@@ -21,6 +23,11 @@ spaced (due z) (due rest) = due (bytes " " ++ numeral z ++ rest)
 -- the three numbers of a corner in whole thousandths, each after a space, before the rest of the line
 unfoldable pub corner : Vec3 → Due (List ℕ) → Due (List ℕ)
 corner p rest = spaced (thousandths p.x) (spaced (thousandths p.y) (spaced (thousandths p.z) rest))
+
+-- what stands of a line in a buffer, by where it begins, or the refusal of a number in it
+abbrev pub stands : Result ℕ Refusal → List ℕ → Due (List ℕ)
+stands (Ok from) out = due (drop from out)
+stands (Err refusal) out = refused (number refusal)
 
 -- where no edge was read
 unfoldable pub empty_line : List ℕ

@@ -5,6 +5,7 @@ use Prim.Native.Nat.{ℕ, suc, ◌+◌, ◌-◌, ◌*◌, ◌≤◌, ◌<◌}
 use native.Mathlib.Omega.{arith}
 use lib.ListN.{length, take, drop, get_or, length-drop}
 use lib.Seq.{drop-cons, take_all}
+use Rattle.std.specs.Int.{w64, from_le_bytes}
 use borrow.Author.Tests.{lt-ltb, le-ltb, eq-eqb, ne_eqb}
 use Rattle.edge_records.specs.Records.{low_first, tagged, length_of, head_of, kind_of, size_of_kind}
 use Rattle.edge_records.specs.Laws.{tagged_size, head_size}
@@ -26,6 +27,11 @@ eight i s h =
     ∙ ap (λ (l : List ℕ). get_or s (i + 4) 0 ∷ l) (next 2 (i + 5) (i + 6) s (omega arith) (omega arith)
     ∙ ap (λ (l : List ℕ). get_or s (i + 5) 0 ∷ l) (next 1 (i + 6) (i + 7) s (omega arith) (omega arith)
     ∙ ap (λ (l : List ℕ). get_or s (i + 6) 0 ∷ l) (next 0 (i + 7) (i + 8) s (omega arith) (omega arith)))))))))
+
+pub word_is : (a b c d e f g h : ℕ)
+    → from_le_bytes w64 (a ∷ b ∷ c ∷ d ∷ e ∷ f ∷ g ∷ h ∷ []) ≡ low_first (a ∷ b ∷ c ∷ d ∷ e ∷ f ∷ g ∷ h ∷ [])
+unfolding low_first
+word_is a b c d e f g h = omega arith
 
 -- ---- heads
 pub length_is : (low high : ℕ) → low + 256 * high ≡ low_first (low ∷ high ∷ [])

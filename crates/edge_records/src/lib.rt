@@ -91,26 +91,12 @@ fn kind_of(bytes: &[u8]) -> Kind
     }
 }
 
-// The number of eight bytes, low byte first.
-fn word(b0: u8, b1: u8, b2: u8, b3: u8, b4: u8, b5: u8, b6: u8, b7: u8) -> u64
-    ensures { result ≡ low_first (b0 ∷ b1 ∷ b2 ∷ b3 ∷ b4 ∷ b5 ∷ b6 ∷ b7 ∷ []) }
-{
-    b0 as u64
-        + 0x100 * b1 as u64
-        + 0x1_0000 * b2 as u64
-        + 0x100_0000 * b3 as u64
-        + 0x1_0000_0000 * b4 as u64
-        + 0x100_0000_0000 * b5 as u64
-        + 0x1_0000_0000_0000 * b6 as u64
-        + 0x100_0000_0000_0000 * b7 as u64
-}
-
-// The f64 whose bits stand from byte i on.
+// The f64 whose bits stand from byte i on, low byte first.
 fn number_at(i: usize, s: &[u8]) -> f64
     requires { i + 8 ≤ length s.now }
     ensures { result ≡ number_at i s.now }
 {
-    of_bits(word(
+    of_bits(u64::from_le_bytes([
         s[i],
         s[i + 1],
         s[i + 2],
@@ -119,7 +105,7 @@ fn number_at(i: usize, s: &[u8]) -> f64
         s[i + 5],
         s[i + 6],
         s[i + 7],
-    ))
+    ]))
 }
 
 // The point of three such numbers.

@@ -1,12 +1,10 @@
 -- The line of a well-formed file of arcs whose numbers are in range: `empty`, `box` with six
 -- numbers, or a refusal by 10 at printing. No other refusal is met. Assumes nothing.
 
-use Rattle.std.specs.Prelude.{ℕ, ◌*◌, ◌≡◌, refl, Bool, true, false, cond, List, [], ◌∷◌, T, leb, ℤ, length, drop, Float}
+use Rattle.std.specs.Prelude.{ℕ, ◌≡◌, List, [], ◌∷◌, T, length, drop, None}
 use Rattle.std.proofs.Common.{arith, sym, ap, ◌∙◌, subst}
-use Rattle.std.specs.Float.{nan, inf, fin}
-use Rattle.std.specs.Float.Ieee.{up, down}
 use Rattle.std.specs.Float.Ieee.Bits.{is_true}
-use Rattle.checked.specs.Refusals.{OUT_OF_RANGE, BAD_BOX_OR_SUMS, COUNT_TOO_LARGE}
+use Rattle.checked.specs.Refusals.{OUT_OF_RANGE, BAD_BOX_OR_SUMS}
 use Rattle.checked.specs.Checked.{first, Due, due, refused}
 use Rattle.checked.specs.Tests.{fails, ◌or◌, passing}
 use Rattle.vectors.specs.declared.Vec3.{Vec3}
@@ -16,12 +14,12 @@ use Rattle.boxes.specs.Demand3.{answer}
 use Rattle.arcs.specs.Sweep.{ends_within}
 use Rattle.arcs.specs.Entries.{points}
 use Rattle.box_calls.specs.BoxCalls.{call_due}
-use Rattle.decimals.specs.Thousandths.{thousandths, nearest_up, most, signed}
-use Rattle.edge_lines.specs.Lines.{bytes, spaced, corner, empty_line, refused_line, corners_line, box_line}
+use Rattle.edge_lines.specs.Lines.{bytes, corner, empty_line, refused_line, corners_line, box_line}
+use Rattle.edge_lines.specs.Laws.{TooLarge, corner_large}
 use Rattle.edge_records.specs.declared.Edge.{Edge}
 use Rattle.edge_records.specs.declared.Record.TheVariants as first
 use Rattle.edge_records.specs.Records.{record_of, size_of, kind_of}
-use Rattle.edge_file.specs.EdgeFile.{nothing, printed, ended, by_record, line_from, line_of}
+use Rattle.edge_file.specs.EdgeFile.{ended, by_record, line_from, line_of}
 use Rattle.edge_theorems.specs.FileBoxes.{FileOf, ends, NoneRefused, as_call, file_line}
 use Rattle.arc_theorems.proofs.Points.{extend_answer}
 use Rattle.edge_theorems.specs.ArcFiles.{InRange, Line, none, box, too_large}
@@ -42,39 +40,13 @@ all_accepted [] h = h
 all_accepted (e ∷ es) h = (accepted e h.0, all_accepted es h.1)
 
 -- ---- printing refuses by 10 and by nothing else
-abbrev Ten : {A : Type 0} → Due A → Type 0
-Ten (due a) = Unit
-Ten (refused n) = n ≡ COUNT_TOO_LARGE
-
-ten_thousandths : (x : Float) → Ten (thousandths x)
-unfolding thousandths
-ten_thousandths nan = refl
-ten_thousandths (inf s) = refl
-ten_thousandths (fin s m e) = by s (nearest_up (1000 * (m * up e)) (down e)) (leb (nearest_up (1000 * (m * up e)) (down e)) most)
-  where
-    by : (s : Bool) (size : ℕ) (b : Bool) → Ten (cond b (due (signed s size)) (refused COUNT_TOO_LARGE))
-    by s size true = tt
-    by s size false = refl
-
-ten_spaced : (d : Due ℤ) (rest : Due (List ℕ)) → Ten d → Ten rest → Ten (spaced d rest)
-unfolding spaced
-ten_spaced (refused n) rest h k = h
-ten_spaced (due z) (refused n) h k = k
-ten_spaced (due z) (due text) h k = tt
-
-ten_corner : (p : Vec3) (rest : Due (List ℕ)) → Ten rest → Ten (corner p rest)
-unfolding corner
-ten_corner p rest h =
-    ten_spaced (thousandths p.x) _ (ten_thousandths p.x)
-    (ten_spaced (thousandths p.y) _ (ten_thousandths p.y) (ten_spaced (thousandths p.z) rest (ten_thousandths p.z) h))
-
-corners_line_lem : (k : ℕ) (d : Due (List ℕ)) → Ten d → Line (corners_line k d)
+corners_line_lem : (k : ℕ) (d : Due (List ℕ)) → TooLarge d → Line (corners_line k d)
 corners_line_lem k (due text) h = box text
 corners_line_lem k (refused n) h = subst (λ (m : ℕ). Line (refused_line m k)) (sym h) (too_large k)
 
 box_line_lem : (low high : Vec3) (k : ℕ) → Line (box_line low high k)
 unfolding box_line
-box_line_lem low high k = corners_line_lem k (corner low (corner high (due (bytes "\n")))) (ten_corner low _ (ten_corner high (due (bytes "\n")) tt))
+box_line_lem low high k = corners_line_lem k (corner low (corner high (due (bytes "\n")))) (corner_large low _ (corner_large high (due (bytes "\n")) tt))
 
 -- ---- a file with no arc
 no_end : record_of [] ≡ first.End → ⊥
@@ -82,9 +54,9 @@ unfolding record_of kind_of
 no_end e = let z : ◌≡◌ {A = ℕ} 0 1 = cc in omega arith
 
 no_arc : (file : List ℕ) → record_of file ≡ first.End → drop (size_of file) file ≡ [] → line_of file ≡ empty_line
-unfolding line_of line_from ended printed
+unfolding line_of line_from ended
 no_arc [] r d = absurd (no_end r)
-no_arc (b ∷ bs) r d = ap (by_record (line_from (length bs)) nothing 1 (drop (size_of (b ∷ bs)) (b ∷ bs))) r ∙ ap (ended nothing 1) d
+no_arc (b ∷ bs) r d = ap (by_record (line_from (length bs)) None 1 (drop (size_of (b ∷ bs)) (b ∷ bs))) r ∙ ap (ended None 1) d
 
 pub line_of_arcs : {file : List ℕ} (es : List Edge) → FileOf file es → InRange es → Line (line_of file)
 line_of_arcs {file} [] (ends r d) h = subst Line (sym (no_arc file r d)) none

@@ -1,6 +1,6 @@
 -- Files of arcs none of which is refused: the line is that of the box that their calls leave,
 -- whichever arc stands first. Assumes nothing.
-use Rattle.std.specs.Prelude.{ℕ, zero, suc, ◌+◌, ◌-◌, ◌*◌, ◌/◌, ◌<◌, ◌≤◌, ◌≡◌, refl, true, ◌||◌, List, [], ◌∷◌, map, eqb, length, drop, Float}
+use Rattle.std.specs.Prelude.{ℕ, zero, suc, ◌+◌, ◌-◌, ◌*◌, ◌/◌, ◌<◌, ◌≤◌, ◌≡◌, refl, ◌||◌, List, [], ◌∷◌, map, eqb, length, drop, Float, Option, Some, None}
 use Rattle.std.proofs.Common.{mul_comm, mul_assoc, add-mul, arith, sym, ◌∙◌, ap₂, subst, eqb→eq, length-drop}
 use Rattle.std.proofs.Math.Nat.{mul-div-mul_right}
 use Rattle.std.proofs.Math.Path.{ap}
@@ -27,8 +27,7 @@ use Rattle.edge_records.specs.declared.Record.{Record}
 use Rattle.edge_records.specs.declared.Record.TheVariants as first
 use Rattle.edge_records.specs.Records.{record_of, size_of, shortest}
 use Rattle.edge_records.specs.Laws.{Sized, sized, size_within}
-use Rattle.edge_file.specs.declared.Seen.{Seen}
-use Rattle.edge_file.specs.EdgeFile.{nothing, next, call_of, printed, ended, called, by_record, line_from, line_of}
+use Rattle.edge_file.specs.EdgeFile.{bounds_of, next, call_of, printed, ended, called, by_record, line_from, line_of}
 
 -- ================ the claim
 
@@ -62,9 +61,9 @@ pub record Printed (file : List ℕ) (es : List Edge) : Type 0 where
 -- ================ the proof
 
 -- ---- along the file
-abbrev seen_after : Seen → List Edge → Seen
+abbrev seen_after : Option Bounds → List Edge → Option Bounds
 seen_after seen [] = seen
-seen_after seen (e ∷ es) = seen_after (record { has_edge = true; bounds = after seen.bounds (call_due (as_call e) seen.bounds) }) es
+seen_after seen (e ∷ es) = seen_after (Some (after (bounds_of seen) (call_due (as_call e) (bounds_of seen)))) es
 
 abbrev all_due : List Edge → List (Due Unit)
 all_due [] = []
@@ -76,11 +75,11 @@ head_of xs ys x y e = cc
 tail_of : (xs ys : List (Due Unit)) (x y : Due Unit) → x ∷ xs ≡ y ∷ ys → xs ≡ ys
 tail_of xs ys x y e = cc
 
-goes_on : (on : Seen → List ℕ) (k : ℕ) (b : Bounds) (d : Due Bounds) → answer d ≡ due tt → called on k d ≡ on (record { has_edge = true; bounds = after b d })
+goes_on : (on : Option Bounds → List ℕ) (k : ℕ) (b : Bounds) (d : Due Bounds) → answer d ≡ due tt → called on k d ≡ on (Some (after b d))
 goes_on on k b (due c) e = refl
 goes_on on k b (refused n) e = absurd (let z : ◌≡◌ {A = ℕ} 0 1 = cc in omega arith)
 
-along : (n : ℕ) {file : List ℕ} {es : List Edge} → FileOf file es → (seen : Seen) (k : ℕ) → length es < n → answers seen.bounds (map as_call es) ≡ all_due es
+along : (n : ℕ) {file : List ℕ} {es : List Edge} → FileOf file es → (seen : Option Bounds) (k : ℕ) → length es < n → answers (bounds_of seen) (map as_call es) ≡ all_due es
     → line_from n seen k file ≡ printed (seen_after seen es) (end_after k es)
 unfolding line_from answers extend_due
 along zero f seen k h a = absurd (omega arith)
@@ -90,8 +89,8 @@ along (suc n) {file} (arc {e = e} {es = es} r f) seen k h a =
     let mine = head_of _ _ _ _ a in
     let rest = tail_of _ _ _ _ a in
     ap (by_record (line_from n) seen k (drop (size_of file) file)) r
-    ∙ goes_on (λ s. line_from n s (next k) (drop (size_of file) file)) k seen.bounds (call_of e seen.bounds) mine
-    ∙ along n f (record { has_edge = true; bounds = after seen.bounds (call_due (as_call e) seen.bounds) }) (next k) (omega arith) rest
+    ∙ goes_on (λ s. line_from n s (next k) (drop (size_of file) file)) k (bounds_of seen) (call_of e (bounds_of seen)) mine
+    ∙ along n f (Some (after (bounds_of seen) (call_due (as_call e) (bounds_of seen)))) (next k) (omega arith) rest
 
 -- a file has more bytes than arcs
 longer : {file : List ℕ} {es : List Edge} → FileOf file es → length es < length file
@@ -109,26 +108,19 @@ all_due_lem : (es : List Edge) → NoneRefused es → map (λ c. answer (call_du
 all_due_lem [] h = refl
 all_due_lem (e ∷ es) h = ap₂ (λ (x : Due Unit) (xs : List (Due Unit)). x ∷ xs) h.0 (all_due_lem es h.1)
 
-has_edge : (seen : Seen) (es : List Edge) → seen.has_edge ≡ true → (seen_after seen es).has_edge ≡ true
-has_edge seen [] h = h
-has_edge seen (e ∷ es) h = has_edge (record { has_edge = true; bounds = after seen.bounds (call_due (as_call e) seen.bounds) }) es refl
-
-box_after : (seen : Seen) (es : List Edge) → (seen_after seen es).bounds ≡ run seen.bounds (map as_call es)
+box_after : (b : Bounds) (es : List Edge) → seen_after (Some b) es ≡ Some (run b (map as_call es))
 unfolding run
-box_after seen [] = refl
-box_after seen (e ∷ es) = box_after (record { has_edge = true; bounds = after seen.bounds (call_due (as_call e) seen.bounds) }) es
+box_after b [] = refl
+box_after b (e ∷ es) = box_after (after b (call_due (as_call e) b)) es
 
 -- The line of a file of arcs none of which is refused.
 pub file_line : {file : List ℕ} (e : Edge) (es : List Edge) → FileOf file (e ∷ es) → NoneRefused (e ∷ es) → Printed file (e ∷ es)
-unfolding line_of printed
+unfolding line_of run
 file_line {file} e es f h = record {
   line =
-      along (length file) f nothing 1 (longer f) ((box_calls_met empty empty_free (map as_call (e ∷ es))).each ∙ all_due_lem (e ∷ es) h)
-      ∙ as_box (seen_after nothing (e ∷ es)) (has_edge _ es refl) (box_after nothing (e ∷ es));
+      along (length file) f None 1 (longer f) ((box_calls_met empty empty_free (map as_call (e ∷ es))).each ∙ all_due_lem (e ∷ es) h)
+      ∙ ap (λ (s : Option Bounds). printed s (end_after 1 (e ∷ es))) (box_after (after empty (call_due (as_call e) empty)) es);
 }
-  where
-    as_box : (s : Seen) → s.has_edge ≡ true → s.bounds ≡ box_of (e ∷ es) → printed s (end_after 1 (e ∷ es)) ≡ box_line (box_of (e ∷ es)).low (box_of (e ∷ es)).high (end_after 1 (e ∷ es))
-    as_box s p q = simp (p, q)
 
 -- ---- the same box has the same thousandths
 nearest_same : (a p b q : ℕ) → 0 < p → 0 < q → a * q ≡ b * p → nearest_up (1000 * a) p ≡ nearest_up (1000 * b) q

@@ -4,6 +4,7 @@
 
 ghost use Rattle.std.specs.Prelude.{◌≡◌, ◌≤◌, length};
 ghost use Rattle.edge_records.specs.Records.{shortest};
+ghost use Rattle.edge_file.specs.Steps.{state};
 ghost use Rattle.edgebox.specs.Input.{Took, is_due, HasRead};
 
 use edge_file::Reading;
@@ -20,21 +21,13 @@ struct Turn {
 
 // Takes the bytes of one read.
 fn take(reading: Reading, bytes: &[u8]) -> Turn
-    ensures took { Took reading bytes.now result.reading }
-    ensures is_due_value { result.is_due ≡ is_due result.reading bytes.now }
+    ensures took { Took (state reading) bytes.now (state result.reading) }
+    ensures more { result.is_due ≡ is_due (state result.reading) bytes.now }
 {
-    let taken = reading.feed(bytes);
-    let reading = taken.reading;
-    if reading.is_refused() {
-        Turn {
-            reading,
-            is_due: false,
-        }
-    } else {
-        Turn {
-            reading,
-            is_due: bytes.len() == ARC,
-        }
+    let reading = reading.feed(bytes).reading;
+    Turn {
+        reading,
+        is_due: !reading.is_refused() & (bytes.len() == ARC),
     }
 }
 
@@ -56,21 +49,18 @@ fn read_full<R: Read>(input: &mut R, buf: &mut [u8]) -> usize
 // Reads record by record until the input is over, or a refusal ends the reading. Another record can
 // follow only an edge's, so a read asks for as many bytes as that has: no more than one record is
 // in memory, and the bytes after the end record are in its read. Nothing says that an input ends,
-// so the reads are counted down from a number that no run uses up.
+// so the reads are counted up to a number that no run reaches.
 fn read_all<R: Read>(input: &mut R, buf: &mut [u8]) -> Reading
     requires { length buf.old ≡ shortest }
-    ensures { HasRead result }
+    ensures { HasRead (state result) }
 {
     let mut reading = Reading::begun();
-    let mut reads = u64::MAX;
-    while reads > 0 {
+    for _ in 0..u64::MAX {
         let count = read_full(input, buf);
         let turn = take(reading, &buf[..count]);
         reading = turn.reading;
-        if turn.is_due {
-            reads -= 1;
-        } else {
-            return reading;
+        if !turn.is_due {
+            break;
         }
     }
     reading

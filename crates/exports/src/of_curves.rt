@@ -4,15 +4,15 @@ ghost use Rattle.rows.specs.Rows as Rows;
 ghost use Rattle.curves.specs.Entries as Curves;
 ghost use Rattle.curves.specs.Drawn.{inner_points_due};
 ghost use Rattle.checked.specs.Answers.{number_of};
-ghost use Rattle.c_arrays.specs.Records.{vec3, after, tag_due};
+ghost use Rattle.c_arrays.specs.Records.{vec3, after, tag_due, stored};
 ghost use Rattle.c_arrays.specs.ArcRecords.{rigid, bounds, of_arc, of_bounds, after_count};
 ghost use Rattle.c_arrays.specs.TraceRecords.{some_due};
-ghost use Rattle.c_shapes.specs.Stores.{stored};
 ghost use Rattle.c_shapes.specs.CurveRecords.{is_curve, curve, with_curve, curve_tags};
 
-use c_arrays::arc_records::{bounds_of, rigid_of, store_bounds};
+use c_arrays::arc_records::{bounds_of, rigid_of};
 use c_arrays::{UNKNOWN_TAG, vec3_of};
-use c_shapes::curve_records::{curve_of, is_curve, store_curve, store_curve_arc, store_moved};
+use c_shapes::curve_records::curve_of;
+use c_shapes::stored::{store, store_drawn, store_some, store_tagged};
 use curves::drawn::write_inner_points;
 
 // The curve c run the other way, and to `tags` the tags `arc` and `trace` of a piece; an arc has
@@ -29,11 +29,9 @@ pub fn jr_curve_reversed(
     ensures out { out.new ≡ stored with_curve out.old (tag_due (is_curve kind arc trace) (Curves.reversed_due (curve c.now kind arc trace))) }
     ensures tags { tags.new ≡ after curve_tags tags.old (tag_due (is_curve kind arc trace) (Curves.reversed_due (curve c.now kind arc trace))) }
 {
-    if is_curve(kind, arc, trace) {
-        let e = curve_of(c, kind, arc, trace);
-        store_curve(e.reversed(), out, tags)
-    } else {
-        UNKNOWN_TAG
+    match curve_of(c, kind, arc, trace) {
+        Some(e) => store_tagged(e.reversed(), out, tags),
+        None => UNKNOWN_TAG,
     }
 }
 
@@ -49,12 +47,9 @@ pub fn jr_curve_moved(
     ensures number { result ≡ number_of (tag_due (is_curve kind arc trace) (Curves.moved_due (curve c.now kind arc trace) (rigid m.now))) }
     ensures out { out.new ≡ stored with_curve out.old (tag_due (is_curve kind arc trace) (Curves.moved_due (curve c.now kind arc trace) (rigid m.now))) }
 {
-    if is_curve(kind, arc, trace) {
-        let e = curve_of(c, kind, arc, trace);
-        let g = rigid_of(m);
-        store_moved(e.moved(g), out)
-    } else {
-        UNKNOWN_TAG
+    match curve_of(c, kind, arc, trace) {
+        Some(e) => store(e.moved(rigid_of(m)), out),
+        None => UNKNOWN_TAG,
     }
 }
 
@@ -63,11 +58,9 @@ pub fn jr_curve_arc(c: &[f64; 27], kind: u32, arc: u32, trace: u32, out: &mut [f
     ensures number { result ≡ number_of (tag_due (is_curve kind arc trace) (some_due (Curves.arc_due (curve c.now kind arc trace)))) }
     ensures out { out.new ≡ after of_arc out.old (tag_due (is_curve kind arc trace) (some_due (Curves.arc_due (curve c.now kind arc trace)))) }
 {
-    if is_curve(kind, arc, trace) {
-        let e = curve_of(c, kind, arc, trace);
-        store_curve_arc(e.arc(), out)
-    } else {
-        UNKNOWN_TAG
+    match curve_of(c, kind, arc, trace) {
+        Some(e) => store_some(e.arc(), out),
+        None => UNKNOWN_TAG,
     }
 }
 
@@ -89,19 +82,13 @@ pub fn jr_curve_inner_points(
     ensures row { row.new ≡ Rows.row_after (tag_due (is_curve kind arc trace) (inner_points_due (curve c.now kind arc trace) (vec3 from.now) (vec3 to.now) chord (length row.old))) row.old }
     ensures written { written.new ≡ after_count written.old (tag_due (is_curve kind arc trace) (inner_points_due (curve c.now kind arc trace) (vec3 from.now) (vec3 to.now) chord (length row.old))) }
 {
-    if is_curve(kind, arc, trace) {
-        let e = curve_of(c, kind, arc, trace);
-        let u = vec3_of(from);
-        let v = vec3_of(to);
-        let w = write_inner_points(e, u, v, chord, &mut *row);
-        let r = w.refusal;
-        if r == 0 {
-            written[0] = 3 * (w.points as u64);
-            return 0;
-        }
-        return r as u32;
+    match curve_of(c, kind, arc, trace) {
+        Some(e) => store_drawn(
+            write_inner_points(e, vec3_of(from), vec3_of(to), chord, row),
+            written,
+        ),
+        None => UNKNOWN_TAG,
     }
-    UNKNOWN_TAG
 }
 
 // Widens the box b to hold the curve c, an arc from `from` to `to`, a piece from its own start to
@@ -118,13 +105,8 @@ pub fn jr_curve_extend_bounds(
     ensures number { result ≡ number_of (tag_due (is_curve kind arc trace) (Curves.extend_due (curve c.now kind arc trace) (vec3 from.now) (vec3 to.now) (bounds b.old))) }
     ensures corners { b.new ≡ after of_bounds b.old (tag_due (is_curve kind arc trace) (Curves.extend_due (curve c.now kind arc trace) (vec3 from.now) (vec3 to.now) (bounds b.old))) }
 {
-    if is_curve(kind, arc, trace) {
-        let e = curve_of(c, kind, arc, trace);
-        let u = vec3_of(from);
-        let v = vec3_of(to);
-        let old = bounds_of(b);
-        store_bounds(e.extended(u, v, old), b)
-    } else {
-        UNKNOWN_TAG
+    match curve_of(c, kind, arc, trace) {
+        Some(e) => store(e.extended(vec3_of(from), vec3_of(to), bounds_of(b)), b),
+        None => UNKNOWN_TAG,
     }
 }

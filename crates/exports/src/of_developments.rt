@@ -7,16 +7,16 @@ ghost use Rattle.c_arrays.specs.ArcRecords.{rigid};
 ghost use Rattle.c_arrays.specs.DevelopmentRecords.{development, of_development, of_unrolled};
 
 use c_arrays::arc_records::rigid_of;
-use c_arrays::development_records::{development_of, store_development, store_unrolled};
-use c_arrays::{store_vector, vec2_of, vec3_of};
+use c_arrays::development_records::development_of;
+use c_arrays::{vec2_of, vec3_of};
+use c_shapes::stored::store;
 
 // The unit vector away from the axis of the development at u.
 pub fn jr_development_radial(dev: &[f64; 10], u: f64, out: &mut [f64; 3]) -> u32
     ensures number { result ≡ number_of (Developments.radial_due (development dev.now) u) }
     ensures out { out.new ≡ after of_vec3 out.old (Developments.radial_due (development dev.now) u) }
 {
-    let d = development_of(dev);
-    store_vector(d.radial(u), out)
+    store(development_of(dev).radial(u), out)
 }
 
 // The point at p = (u, v) of the development, r away from its axis.
@@ -24,9 +24,7 @@ pub fn jr_development_point(dev: &[f64; 10], p: &[f64; 2], r: f64, out: &mut [f6
     ensures number { result ≡ number_of (Developments.point_due (development dev.now) (vec2 p.now) r) }
     ensures out { out.new ≡ after of_vec3 out.old (Developments.point_due (development dev.now) (vec2 p.now) r) }
 {
-    let d = development_of(dev);
-    let q = vec2_of(p);
-    store_vector(d.point(q, r), out)
+    store(development_of(dev).point(vec2_of(p), r), out)
 }
 
 // How the point at p of the development, r away from its axis, moves as p moves by d.
@@ -40,10 +38,7 @@ pub fn jr_development_along(
     ensures number { result ≡ number_of (Developments.along_due (development dev.now) (vec2 p.now) (vec2 d.now) r) }
     ensures out { out.new ≡ after of_vec3 out.old (Developments.along_due (development dev.now) (vec2 p.now) (vec2 d.now) r) }
 {
-    let c = development_of(dev);
-    let q = vec2_of(p);
-    let v = vec2_of(d);
-    store_vector(c.along(q, v, r), out)
+    store(development_of(dev).along(vec2_of(p), vec2_of(d), r), out)
 }
 
 // The u and v of the point q in the development, u within half a turn of `near`, and the distance
@@ -52,9 +47,7 @@ pub fn jr_development_unroll(dev: &[f64; 10], q: &[f64; 3], near: f64, out: &mut
     ensures number { result ≡ number_of (Developments.unroll_due (development dev.now) (vec3 q.now) near) }
     ensures out { out.new ≡ after of_unrolled out.old (Developments.unroll_due (development dev.now) (vec3 q.now) near) }
 {
-    let d = development_of(dev);
-    let p = vec3_of(q);
-    store_unrolled(d.unroll(p, near), out)
+    store(development_of(dev).unroll(vec3_of(q), near), out)
 }
 
 // The development moved by m.
@@ -62,7 +55,5 @@ pub fn jr_development_moved(dev: &[f64; 10], m: &[f64; 12], out: &mut [f64; 10])
     ensures number { result ≡ number_of (Developments.moved_due (development dev.now) (rigid m.now)) }
     ensures out { out.new ≡ after of_development out.old (Developments.moved_due (development dev.now) (rigid m.now)) }
 {
-    let d = development_of(dev);
-    let g = rigid_of(m);
-    store_development(d.moved(g), out)
+    store(development_of(dev).moved(rigid_of(m)), out)
 }

@@ -5,8 +5,9 @@ ghost use Rattle.checked.specs.Answers.{number_of};
 ghost use Rattle.c_arrays.specs.Records.{vec3, of_vec3, after};
 ghost use Rattle.c_arrays.specs.ArcRecords.{rigid, of_rigid};
 
-use c_arrays::arc_records::{rigid_of, store_motion};
-use c_arrays::{store_vector, vec3_of};
+use c_arrays::arc_records::rigid_of;
+use c_arrays::vec3_of;
+use c_shapes::stored::store;
 use motions::Rigid;
 
 // The rotation by the angle about an axis of any length through the origin.
@@ -14,8 +15,7 @@ pub fn jr_rigid_rotation(axis: &[f64; 3], angle: f64, out: &mut [f64; 12]) -> u3
     ensures number { result ≡ number_of (Motions.rotation_due (vec3 axis.now) angle) }
     ensures out { out.new ≡ after of_rigid out.old (Motions.rotation_due (vec3 axis.now) angle) }
 {
-    let a = vec3_of(axis);
-    store_motion(Rigid::rotation(a, angle), out)
+    store(Rigid::rotation(vec3_of(axis), angle), out)
 }
 
 // The motion from the coordinates of a frame, its axes x, y and z at `origin`, to those of the
@@ -30,11 +30,10 @@ pub fn jr_rigid_frame(
     ensures number { result ≡ number_of (Motions.frame_due (vec3 origin.now) (vec3 x.now) (vec3 y.now) (vec3 z.now)) }
     ensures out { out.new ≡ after of_rigid out.old (Motions.frame_due (vec3 origin.now) (vec3 x.now) (vec3 y.now) (vec3 z.now)) }
 {
-    let o = vec3_of(origin);
-    let a = vec3_of(x);
-    let b = vec3_of(y);
-    let c = vec3_of(z);
-    store_motion(Rigid::frame(o, a, b, c), out)
+    store(
+        Rigid::frame(vec3_of(origin), vec3_of(x), vec3_of(y), vec3_of(z)),
+        out,
+    )
 }
 
 // The point p moved by m.
@@ -42,9 +41,7 @@ pub fn jr_rigid_apply(m: &[f64; 12], p: &[f64; 3], out: &mut [f64; 3]) -> u32
     ensures number { result ≡ number_of (Motions.apply_due (rigid m.now) (vec3 p.now)) }
     ensures out { out.new ≡ after of_vec3 out.old (Motions.apply_due (rigid m.now) (vec3 p.now)) }
 {
-    let g = rigid_of(m);
-    let q = vec3_of(p);
-    store_vector(g.apply(q), out)
+    store(rigid_of(m).apply(vec3_of(p)), out)
 }
 
 // The direction p turned by m, whose shift is left out.
@@ -52,7 +49,5 @@ pub fn jr_rigid_apply_vector(m: &[f64; 12], p: &[f64; 3], out: &mut [f64; 3]) ->
     ensures number { result ≡ number_of (Motions.apply_vector_due (rigid m.now) (vec3 p.now)) }
     ensures out { out.new ≡ after of_vec3 out.old (Motions.apply_vector_due (rigid m.now) (vec3 p.now)) }
 {
-    let g = rigid_of(m);
-    let q = vec3_of(p);
-    store_vector(g.apply_vector(q), out)
+    store(rigid_of(m).apply_vector(vec3_of(p)), out)
 }

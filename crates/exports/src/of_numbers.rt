@@ -10,7 +10,7 @@ ghost use Rattle.libm.specs.Roots as Roots;
 ghost use Rattle.checked.specs.Answers.{number_of};
 ghost use Rattle.c_arrays.specs.Records.{alone, of_sines, after};
 
-use c_arrays::{store_number, store_sines};
+use c_shapes::stored::store;
 use libm::{atan2, roots, sincos};
 
 // The square root of x, rounded once; a NaN where x is below 0.
@@ -60,7 +60,7 @@ pub fn jr_sin(x: f64, out: &mut [f64; 1]) -> u32
     ensures number { result ≡ number_of (answered (Circle.sin_c x)) }
     ensures out { out.new ≡ after alone out.old (answered (Circle.sin_c x)) }
 {
-    store_number(checked::settle(sincos::sin(x)), out)
+    store(sincos::sin(x), out)
 }
 
 // The sine and the cosine of the angle x.
@@ -68,5 +68,5 @@ pub fn jr_sincos(x: f64, out: &mut [f64; 2]) -> u32
     ensures number { result ≡ number_of (answered (Circle.sincos_c x)) }
     ensures out { out.new ≡ after of_sines out.old (answered (Circle.sincos_c x)) }
 {
-    store_sines(sincos::sincos(x), out)
+    store(sincos::sincos(x), out)
 }

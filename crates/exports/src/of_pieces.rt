@@ -2,16 +2,13 @@
 ghost use Rattle.std.specs.Prelude.{◌≡◌};
 ghost use Rattle.pieces.specs.Entries as Pieces;
 ghost use Rattle.checked.specs.Answers.{number_of};
-ghost use Rattle.c_arrays.specs.Records.{vec2, alone, of_vec2, of_vec3, after, tag_due};
+ghost use Rattle.c_arrays.specs.Records.{vec2, alone, of_vec2, of_vec3, after, tag_due, stored};
 ghost use Rattle.piece_arrays.specs.Arrays.{is_piece, piece, tags_of, with_piece};
 ghost use Rattle.c_shapes.specs.PieceRecords.{of_place, of_measure, of_box};
-ghost use Rattle.c_shapes.specs.Stores.{stored};
 
-use c_arrays::{UNKNOWN_TAG, store_vector, vec2_of};
-use c_shapes::piece_records::{
-    store_box, store_count, store_measure, store_piece, store_place, store_second,
-};
-use piece_arrays::{is_piece, piece_of};
+use c_arrays::{UNKNOWN_TAG, vec2_of};
+use c_shapes::piece_records::piece_of;
+use c_shapes::stored::{store, store_tagged};
 
 // The box of the piece w in its development: the least and the greatest u, the least and the
 // greatest v; a straight piece's points, t from 0 to 1, lie at most 2^-33 mm outside it.
@@ -19,11 +16,9 @@ pub fn jr_piece_uv_box(w: &[f64; 26], arc: u32, trace: u32, out: &mut [f64; 4]) 
     ensures number { result ≡ number_of (tag_due (is_piece arc trace) (Pieces.uv_box_due (piece w.now arc trace))) }
     ensures out { out.new ≡ after of_box out.old (tag_due (is_piece arc trace) (Pieces.uv_box_due (piece w.now arc trace))) }
 {
-    if is_piece(arc, trace) {
-        let c = piece_of(w, arc, trace);
-        store_box(c.uv_box(), out)
-    } else {
-        UNKNOWN_TAG
+    match piece_of(w, arc, trace) {
+        Some(c) => store(c.uv_box(), out),
+        None => UNKNOWN_TAG,
     }
 }
 
@@ -38,11 +33,9 @@ pub fn jr_piece_polyline(
     ensures number { result ≡ number_of (tag_due (is_piece arc trace) (Pieces.polyline_due (piece w.now arc trace) deviation)) }
     ensures out { out.new ≡ after alone out.old (tag_due (is_piece arc trace) (Pieces.polyline_due (piece w.now arc trace) deviation)) }
 {
-    if is_piece(arc, trace) {
-        let c = piece_of(w, arc, trace);
-        store_count(c.polyline(deviation), out)
-    } else {
-        UNKNOWN_TAG
+    match piece_of(w, arc, trace) {
+        Some(c) => store(c.polyline(deviation), out),
+        None => UNKNOWN_TAG,
     }
 }
 
@@ -58,11 +51,9 @@ pub fn jr_piece_reversed(
     ensures out { out.new ≡ stored with_piece out.old (tag_due (is_piece arc trace) (Pieces.reversed_due (piece w.now arc trace))) }
     ensures tags { tags.new ≡ after tags_of tags.old (tag_due (is_piece arc trace) (Pieces.reversed_due (piece w.now arc trace))) }
 {
-    if is_piece(arc, trace) {
-        let c = piece_of(w, arc, trace);
-        store_piece(c.reversed(), out, tags)
-    } else {
-        UNKNOWN_TAG
+    match piece_of(w, arc, trace) {
+        Some(c) => store_tagged(c.reversed(), out, tags),
+        None => UNKNOWN_TAG,
     }
 }
 
@@ -72,11 +63,9 @@ pub fn jr_piece_at(w: &[f64; 26], arc: u32, trace: u32, t: f64, out: &mut [f64; 
     ensures number { result ≡ number_of (tag_due (is_piece arc trace) (Pieces.at_due (piece w.now arc trace) t)) }
     ensures out { out.new ≡ after of_place out.old (tag_due (is_piece arc trace) (Pieces.at_due (piece w.now arc trace) t)) }
 {
-    if is_piece(arc, trace) {
-        let c = piece_of(w, arc, trace);
-        store_place(c.at(t), out)
-    } else {
-        UNKNOWN_TAG
+    match piece_of(w, arc, trace) {
+        Some(c) => store(c.at(t), out),
+        None => UNKNOWN_TAG,
     }
 }
 
@@ -85,11 +74,9 @@ pub fn jr_piece_second(w: &[f64; 26], arc: u32, trace: u32, t: f64, out: &mut [f
     ensures number { result ≡ number_of (tag_due (is_piece arc trace) (Pieces.second_due (piece w.now arc trace) t)) }
     ensures out { out.new ≡ after of_vec2 out.old (tag_due (is_piece arc trace) (Pieces.second_due (piece w.now arc trace) t)) }
 {
-    if is_piece(arc, trace) {
-        let c = piece_of(w, arc, trace);
-        store_second(c.second(t), out)
-    } else {
-        UNKNOWN_TAG
+    match piece_of(w, arc, trace) {
+        Some(c) => store(c.second(t), out),
+        None => UNKNOWN_TAG,
     }
 }
 
@@ -106,12 +93,9 @@ pub fn jr_piece_normal(
     ensures number { result ≡ number_of (tag_due (is_piece arc trace) (Pieces.normal_due (piece w.now arc trace) (vec2 p.now) r)) }
     ensures out { out.new ≡ after of_vec3 out.old (tag_due (is_piece arc trace) (Pieces.normal_due (piece w.now arc trace) (vec2 p.now) r)) }
 {
-    if is_piece(arc, trace) {
-        let c = piece_of(w, arc, trace);
-        let q = vec2_of(p);
-        store_vector(c.normal(q, r), out)
-    } else {
-        UNKNOWN_TAG
+    match piece_of(w, arc, trace) {
+        Some(c) => store(c.normal(vec2_of(p), r), out),
+        None => UNKNOWN_TAG,
     }
 }
 
@@ -120,11 +104,9 @@ pub fn jr_piece_measure(w: &[f64; 26], arc: u32, trace: u32, out: &mut [f64; 3])
     ensures number { result ≡ number_of (tag_due (is_piece arc trace) (Pieces.measure_due (piece w.now arc trace))) }
     ensures out { out.new ≡ after of_measure out.old (tag_due (is_piece arc trace) (Pieces.measure_due (piece w.now arc trace))) }
 {
-    if is_piece(arc, trace) {
-        let c = piece_of(w, arc, trace);
-        store_measure(c.measure(), out)
-    } else {
-        UNKNOWN_TAG
+    match piece_of(w, arc, trace) {
+        Some(c) => store(c.measure(), out),
+        None => UNKNOWN_TAG,
     }
 }
 
@@ -134,11 +116,9 @@ pub fn jr_piece_quadrature_pieces(w: &[f64; 26], arc: u32, trace: u32, out: &mut
     ensures number { result ≡ number_of (tag_due (is_piece arc trace) (Pieces.quadrature_due (piece w.now arc trace))) }
     ensures out { out.new ≡ after alone out.old (tag_due (is_piece arc trace) (Pieces.quadrature_due (piece w.now arc trace))) }
 {
-    if is_piece(arc, trace) {
-        let c = piece_of(w, arc, trace);
-        store_count(c.quadrature_pieces(), out)
-    } else {
-        UNKNOWN_TAG
+    match piece_of(w, arc, trace) {
+        Some(c) => store(c.quadrature_pieces(), out),
+        None => UNKNOWN_TAG,
     }
 }
 
@@ -154,10 +134,8 @@ pub fn jr_piece_chords(
     ensures number { result ≡ number_of (tag_due (is_piece arc trace) (Pieces.chords_due (piece w.now arc trace) r chord)) }
     ensures out { out.new ≡ after alone out.old (tag_due (is_piece arc trace) (Pieces.chords_due (piece w.now arc trace) r chord)) }
 {
-    if is_piece(arc, trace) {
-        let c = piece_of(w, arc, trace);
-        store_count(c.chords(r, chord), out)
-    } else {
-        UNKNOWN_TAG
+    match piece_of(w, arc, trace) {
+        Some(c) => store(c.chords(r, chord), out),
+        None => UNKNOWN_TAG,
     }
 }

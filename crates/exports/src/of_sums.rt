@@ -11,9 +11,10 @@ ghost use Rattle.c_arrays.specs.FaceRecords.{cone, sums, of_sums};
 ghost use Rattle.piece_arrays.specs.Arrays.{is_piece, piece};
 
 use c_arrays::arc_records::arc_of;
-use c_arrays::face_records::{cone_of, store_sums, sums_of};
+use c_arrays::face_records::{cone_of, sums_of};
 use c_arrays::{UNKNOWN_TAG, vec3_of};
-use piece_arrays::{is_piece, piece_of};
+use c_shapes::piece_records::piece_of;
+use c_shapes::stored::store;
 use revolutions::closings;
 use walls::cut_walls;
 
@@ -31,15 +32,16 @@ pub fn jr_segment(
     ensures number { result ≡ number_of (Segments.segment_due (arc a.now) (vec3 k.now) (vec3 u.now) (vec3 v.now) (vec3 n.now) (vec3 o.now) (sums acc.old)) }
     ensures acc { acc.new ≡ after of_sums acc.old (Segments.segment_due (arc a.now) (vec3 k.now) (vec3 u.now) (vec3 v.now) (vec3 n.now) (vec3 o.now) (sums acc.old)) }
 {
-    let c = arc_of(a);
-    let axis = vec3_of(k);
-    let from = vec3_of(u);
-    let to = vec3_of(v);
-    let normal = vec3_of(n);
-    let origin = vec3_of(o);
-    let old = sums_of(acc);
-    store_sums(
-        segments::with_segment(old, c, axis, from, to, normal, origin),
+    store(
+        segments::with_segment(
+            sums_of(acc),
+            arc_of(a),
+            vec3_of(k),
+            vec3_of(u),
+            vec3_of(v),
+            vec3_of(n),
+            vec3_of(o),
+        ),
         acc,
     )
 }
@@ -49,9 +51,7 @@ pub fn jr_revolution_open(c: &[f64; 8], o: &[f64; 3], running: &mut [f64; 8]) ->
     ensures number { result ≡ number_of (Revolutions.open_due (cone c.now true) (vec3 o.now)) }
     ensures running { running.new ≡ after of_sums running.old (Revolutions.open_due (cone c.now true) (vec3 o.now)) }
 {
-    let k = cone_of(c, true);
-    let origin = vec3_of(o);
-    store_sums(revolutions::open(k, origin), running)
+    store(revolutions::open(cone_of(c, true), vec3_of(o)), running)
 }
 
 // Adds the arc a from u to v, an edge of the face on the cone c, to the running sums, o being their
@@ -67,13 +67,17 @@ pub fn jr_revolution_add_arc(
     ensures number { result ≡ number_of (Revolutions.add_due (cone c.now true) (vec3 o.now) (Revolutions.arc (arc a.now) (vec3 u.now) (vec3 v.now)) (sums running.old)) }
     ensures running { running.new ≡ after of_sums running.old (Revolutions.add_due (cone c.now true) (vec3 o.now) (Revolutions.arc (arc a.now) (vec3 u.now) (vec3 v.now)) (sums running.old)) }
 {
-    let k = cone_of(c, true);
-    let origin = vec3_of(o);
-    let b = arc_of(a);
-    let from = vec3_of(u);
-    let to = vec3_of(v);
-    let old = sums_of(running);
-    store_sums(revolutions::add_arc(old, k, b, from, to, origin), running)
+    store(
+        revolutions::add_arc(
+            sums_of(running),
+            cone_of(c, true),
+            arc_of(a),
+            vec3_of(u),
+            vec3_of(v),
+            vec3_of(o),
+        ),
+        running,
+    )
 }
 
 // Adds the piece w, an edge of the face on the cone c, to the running sums, o being their point.
@@ -88,14 +92,12 @@ pub fn jr_revolution_add_piece(
     ensures number { result ≡ number_of (tag_due (is_piece arc trace) (Revolutions.add_due (cone c.now true) (vec3 o.now) (Revolutions.piece (piece w.now arc trace)) (sums running.old))) }
     ensures running { running.new ≡ after of_sums running.old (tag_due (is_piece arc trace) (Revolutions.add_due (cone c.now true) (vec3 o.now) (Revolutions.piece (piece w.now arc trace)) (sums running.old))) }
 {
-    if is_piece(arc, trace) {
-        let k = cone_of(c, true);
-        let origin = vec3_of(o);
-        let p = piece_of(w, arc, trace);
-        let old = sums_of(running);
-        store_sums(revolutions::add_piece(old, k, p, origin), running)
-    } else {
-        UNKNOWN_TAG
+    match piece_of(w, arc, trace) {
+        Some(p) => store(
+            revolutions::add_piece(sums_of(running), cone_of(c, true), p, vec3_of(o)),
+            running,
+        ),
+        None => UNKNOWN_TAG,
     }
 }
 
@@ -110,10 +112,10 @@ pub fn jr_revolution_close(
     ensures number { result ≡ number_of (close_due (cone c.now convex) (sums running.now) (sums acc.old)) }
     ensures acc { acc.new ≡ after of_sums acc.old (close_due (cone c.now convex) (sums running.now) (sums acc.old)) }
 {
-    let k = cone_of(c, convex);
-    let face = sums_of(running);
-    let old = sums_of(acc);
-    store_sums(closings::closed(old, k, face), acc)
+    store(
+        closings::closed(sums_of(acc), cone_of(c, convex), sums_of(running)),
+        acc,
+    )
 }
 
 // Adds the wall over the piece w, from r0 to r1 away from the axis, to the sums `acc`, o being
@@ -130,12 +132,11 @@ pub fn jr_wall(
     ensures number { result ≡ number_of (tag_due (is_piece arc trace) (wall_due (piece w.now arc trace) r0 r1 (vec3 o.now) (sums acc.old))) }
     ensures acc { acc.new ≡ after of_sums acc.old (tag_due (is_piece arc trace) (wall_due (piece w.now arc trace) r0 r1 (vec3 o.now) (sums acc.old))) }
 {
-    if is_piece(arc, trace) {
-        let p = piece_of(w, arc, trace);
-        let origin = vec3_of(o);
-        let old = sums_of(acc);
-        store_sums(cut_walls::with_cut_wall(old, p, r0, r1, origin), acc)
-    } else {
-        UNKNOWN_TAG
+    match piece_of(w, arc, trace) {
+        Some(p) => store(
+            cut_walls::with_cut_wall(sums_of(acc), p, r0, r1, vec3_of(o)),
+            acc,
+        ),
+        None => UNKNOWN_TAG,
     }
 }

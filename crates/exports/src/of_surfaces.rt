@@ -2,16 +2,16 @@
 ghost use Rattle.std.specs.Prelude.{◌≡◌};
 ghost use Rattle.surfaces.specs.Entries as Surfaces;
 ghost use Rattle.checked.specs.Answers.{number_of};
-ghost use Rattle.c_arrays.specs.Records.{vec3, of_vec3, after, tag_due};
+ghost use Rattle.c_arrays.specs.Records.{vec3, of_vec3, after, tag_due, stored};
 ghost use Rattle.c_arrays.specs.ArcRecords.{rigid};
 ghost use Rattle.c_arrays.specs.TraceRecords.{some_due};
-ghost use Rattle.c_shapes.specs.Stores.{stored};
 ghost use Rattle.c_arrays.specs.FaceRecords.{of_cone};
 ghost use Rattle.c_shapes.specs.SurfaceRecords.{is_surface, surface, of_plane, with_surface};
 
 use c_arrays::arc_records::rigid_of;
-use c_arrays::{UNKNOWN_TAG, store_vector, vec3_of};
-use c_shapes::surface_records::{is_surface, store_cone, store_plane, store_surface, surface_of};
+use c_arrays::{UNKNOWN_TAG, vec3_of};
+use c_shapes::stored::{store, store_some};
+use c_shapes::surface_records::surface_of;
 
 // The plane that the surface s is, its origin and its normal; 255 where it is none.
 pub fn jr_surface_plane(
@@ -25,11 +25,9 @@ pub fn jr_surface_plane(
     ensures number { result ≡ number_of (tag_due (is_surface kind arc trace) (some_due (Surfaces.plane_due (surface s.now kind convex arc trace)))) }
     ensures out { out.new ≡ after of_plane out.old (tag_due (is_surface kind arc trace) (some_due (Surfaces.plane_due (surface s.now kind convex arc trace)))) }
 {
-    if is_surface(kind, arc, trace) {
-        let f = surface_of(s, kind, convex, arc, trace);
-        store_plane(f.plane(), out)
-    } else {
-        UNKNOWN_TAG
+    match surface_of(s, kind, convex, arc, trace) {
+        Some(f) => store_some(f.plane(), out),
+        None => UNKNOWN_TAG,
     }
 }
 
@@ -45,11 +43,9 @@ pub fn jr_surface_revolution(
     ensures number { result ≡ number_of (tag_due (is_surface kind arc trace) (some_due (Surfaces.revolution_due (surface s.now kind convex arc trace)))) }
     ensures out { out.new ≡ after of_cone out.old (tag_due (is_surface kind arc trace) (some_due (Surfaces.revolution_due (surface s.now kind convex arc trace)))) }
 {
-    if is_surface(kind, arc, trace) {
-        let f = surface_of(s, kind, convex, arc, trace);
-        store_cone(f.revolution(), out)
-    } else {
-        UNKNOWN_TAG
+    match surface_of(s, kind, convex, arc, trace) {
+        Some(f) => store_some(f.revolution(), out),
+        None => UNKNOWN_TAG,
     }
 }
 
@@ -66,12 +62,9 @@ pub fn jr_surface_moved(
     ensures number { result ≡ number_of (tag_due (is_surface kind arc trace) (Surfaces.moved_due (surface s.now kind convex arc trace) (rigid m.now))) }
     ensures out { out.new ≡ stored with_surface out.old (tag_due (is_surface kind arc trace) (Surfaces.moved_due (surface s.now kind convex arc trace) (rigid m.now))) }
 {
-    if is_surface(kind, arc, trace) {
-        let f = surface_of(s, kind, convex, arc, trace);
-        let g = rigid_of(m);
-        store_surface(f.moved(g), out)
-    } else {
-        UNKNOWN_TAG
+    match surface_of(s, kind, convex, arc, trace) {
+        Some(f) => store(f.moved(rigid_of(m)), out),
+        None => UNKNOWN_TAG,
     }
 }
 
@@ -88,11 +81,8 @@ pub fn jr_surface_normal_at(
     ensures number { result ≡ number_of (tag_due (is_surface kind arc trace) (Surfaces.normal_due (surface s.now kind convex arc trace) (vec3 p.now))) }
     ensures out { out.new ≡ after of_vec3 out.old (tag_due (is_surface kind arc trace) (Surfaces.normal_due (surface s.now kind convex arc trace) (vec3 p.now))) }
 {
-    if is_surface(kind, arc, trace) {
-        let f = surface_of(s, kind, convex, arc, trace);
-        let q = vec3_of(p);
-        store_vector(f.normal_at(q), out)
-    } else {
-        UNKNOWN_TAG
+    match surface_of(s, kind, convex, arc, trace) {
+        Some(f) => store(f.normal_at(vec3_of(p)), out),
+        None => UNKNOWN_TAG,
     }
 }

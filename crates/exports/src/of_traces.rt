@@ -8,18 +8,15 @@ ghost use Rattle.c_arrays.specs.Records.{alone, after, tag_due};
 ghost use Rattle.c_arrays.specs.TraceRecords.{wave, is_turn, meet, is_trace, trace_of, of_jet, of_span, of_points, some_due};
 
 use c_arrays::UNKNOWN_TAG;
-use c_arrays::trace_records::{
-    is_trace, is_turn, meet_of, store_height, store_jet, store_points, store_span, trace_of,
-    wave_of,
-};
+use c_arrays::trace_records::{meet_of, trace_of, wave_of};
+use c_shapes::stored::{store, store_some};
 
 // The v of the wave w at u and its first and second derivatives, the neutral radius being n.
 pub fn jr_wave_at(w: &[f64; 3], u: f64, n: f64, out: &mut [f64; 3]) -> u32
     ensures number { result ≡ number_of (Waves.at_due (wave w.now) u n) }
     ensures out { out.new ≡ after of_jet out.old (Waves.at_due (wave w.now) u n) }
 {
-    let c = wave_of(w);
-    store_jet(c.at(u, n), out)
+    store(wave_of(w).at(u, n), out)
 }
 
 // The least and the greatest v of the wave w from u0 to u1, the neutral radius being n.
@@ -27,8 +24,7 @@ pub fn jr_wave_range(w: &[f64; 3], u0: f64, u1: f64, n: f64, out: &mut [f64; 2])
     ensures number { result ≡ number_of (Waves.range_due (wave w.now) u0 u1 n) }
     ensures out { out.new ≡ after of_span out.old (Waves.range_due (wave w.now) u0 u1 n) }
 {
-    let c = wave_of(w);
-    store_span(c.range(u0, u1, n), out)
+    store(wave_of(w).range(u0, u1, n), out)
 }
 
 // The point of the meet m on the generatrix at phi and its first and second derivatives, the
@@ -37,11 +33,9 @@ pub fn jr_meet_point(m: &[f64; 10], turn: u32, phi: f64, n: f64, out: &mut [f64;
     ensures number { result ≡ number_of (tag_due (is_turn turn) (Meets.point_due (meet m.now turn) phi n)) }
     ensures out { out.new ≡ after of_points out.old (tag_due (is_turn turn) (Meets.point_due (meet m.now turn) phi n)) }
 {
-    if is_turn(turn) {
-        let c = meet_of(m, turn);
-        store_points(c.point(phi, n), out)
-    } else {
-        UNKNOWN_TAG
+    match meet_of(m, turn) {
+        Some(c) => store(c.point(phi, n), out),
+        None => UNKNOWN_TAG,
     }
 }
 
@@ -51,10 +45,8 @@ pub fn jr_trace_v(t: &[f64; 10], kind: u32, u: f64, n: f64, out: &mut [f64; 1]) 
     ensures number { result ≡ number_of (tag_due (is_trace kind) (some_due (Traces.v_due (trace_of t.now kind) u n))) }
     ensures out { out.new ≡ after alone out.old (tag_due (is_trace kind) (some_due (Traces.v_due (trace_of t.now kind) u n))) }
 {
-    if is_trace(kind) {
-        let c = trace_of(t, kind);
-        store_height(c.v(u, n), out)
-    } else {
-        UNKNOWN_TAG
+    match trace_of(t, kind) {
+        Some(c) => store_some(c.v(u, n), out),
+        None => UNKNOWN_TAG,
     }
 }

@@ -4,10 +4,9 @@ ghost use Rattle.rows.specs.Rows as Rows;
 ghost use Rattle.curves.specs.Entries as Curves;
 ghost use Rattle.curves.specs.Drawn.{inner_points_due};
 ghost use Rattle.checked.specs.Answers.{number_of};
-ghost use Rattle.c_arrays.specs.Records.{vec3, after, tag_due};
+ghost use Rattle.c_arrays.specs.Records.{vec3, after, tag_due, stored};
 ghost use Rattle.c_arrays.specs.ArcRecords.{rigid, bounds, of_arc, of_bounds, after_count};
 ghost use Rattle.c_arrays.specs.TraceRecords.{some_due};
-ghost use Rattle.c_shapes.specs.Stores.{stored};
 ghost use Rattle.c_shapes.specs.CurveRecords.{is_curve, curve, with_curve, curve_tags};
 
 // The curve c run the other way, and to `tags` the tags `arc` and `trace` of a piece; an arc has

@@ -2,10 +2,9 @@
 ghost use Rattle.std.specs.Prelude.{◌≡◌};
 ghost use Rattle.pieces.specs.Entries as Pieces;
 ghost use Rattle.checked.specs.Answers.{number_of};
-ghost use Rattle.c_arrays.specs.Records.{vec2, alone, of_vec2, of_vec3, after, tag_due};
+ghost use Rattle.c_arrays.specs.Records.{vec2, alone, of_vec2, of_vec3, after, tag_due, stored};
 ghost use Rattle.piece_arrays.specs.Arrays.{is_piece, piece, tags_of, with_piece};
 ghost use Rattle.c_shapes.specs.PieceRecords.{of_place, of_measure, of_box};
-ghost use Rattle.c_shapes.specs.Stores.{stored};
 
 // The box of the piece w in its development: the least and the greatest u, the least and the
 // greatest v; a straight piece's points, t from 0 to 1, lie at most 2^-33 mm outside it.

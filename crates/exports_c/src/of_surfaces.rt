@@ -2,10 +2,9 @@
 ghost use Rattle.std.specs.Prelude.{◌≡◌};
 ghost use Rattle.surfaces.specs.Entries as Surfaces;
 ghost use Rattle.checked.specs.Answers.{number_of};
-ghost use Rattle.c_arrays.specs.Records.{vec3, of_vec3, after, tag_due};
+ghost use Rattle.c_arrays.specs.Records.{vec3, of_vec3, after, tag_due, stored};
 ghost use Rattle.c_arrays.specs.ArcRecords.{rigid};
 ghost use Rattle.c_arrays.specs.TraceRecords.{some_due};
-ghost use Rattle.c_shapes.specs.Stores.{stored};
 ghost use Rattle.c_arrays.specs.FaceRecords.{of_cone};
 ghost use Rattle.c_shapes.specs.SurfaceRecords.{is_surface, surface, of_plane, with_surface};
 

@@ -4,11 +4,10 @@
 #![tactic(auto)]
 
 use arcs::Arc;
-use checked::PI;
+use checked::{PI, Refusal};
 use cones::Cone;
 use developments::Development;
-use integrals::{Integrals, SumsAnswer, SurfaceIntegrals};
-use piece_curves::{PieceArc, PieceTrace};
+use integrals::{Integrals, SurfaceIntegrals};
 use pieces::Rolled;
 use profile_arcs::ProfileArc;
 use revolutions::closings;
@@ -46,10 +45,10 @@ fn vec(x: f64, y: f64, z: f64) -> Vec3 {
 }
 
 // The sums, or a NaN in them where there are none.
-fn sums_of(answer: SumsAnswer) -> Integrals {
+fn sums_of(answer: Result<Integrals, Refusal>) -> Integrals {
     match answer {
-        SumsAnswer::Sums(s) => s,
-        SumsAnswer::Refused(_) => Integrals {
+        Ok(s) => s,
+        Err(_) => Integrals {
             surface: SurfaceIntegrals {
                 six_v: 0.0 / 0.0,
                 moment: Vec3::ZERO,
@@ -231,13 +230,13 @@ fn sheet() -> Development {
 }
 
 // A piece of the sheet without a trace.
-fn piece(from: Vec2, to: Vec2, arc: PieceArc) -> Rolled {
+fn piece(from: Vec2, to: Vec2, arc: Option<ProfileArc>) -> Rolled {
     Rolled {
         dev: sheet(),
         from: from,
         to: to,
         arc: arc,
-        trace: PieceTrace::Without,
+        trace: None,
     }
 }
 
@@ -246,11 +245,7 @@ fn add_straight(s: Integrals, from: f64, to: f64, v: f64) -> Integrals {
     sums_of(revolutions::add_piece(
         s,
         cone(50.0, 0.0),
-        piece(
-            Vec2 { x: from, y: v },
-            Vec2 { x: to, y: v },
-            PieceArc::Without,
-        ),
+        piece(Vec2 { x: from, y: v }, Vec2 { x: to, y: v }, None),
         HERE,
     ))
 }
@@ -353,7 +348,7 @@ fn half_cylinder_with_a_notch(rt: &impl Print) -> io::Result<()> {
                 x: mid - 10.0,
                 y: 100.0,
             },
-            PieceArc::With(ProfileArc {
+            Some(ProfileArc {
                 center: Vec2 { x: mid, y: 100.0 },
                 ccw: false,
             }),
@@ -382,7 +377,7 @@ fn cylinder_with_a_hole(rt: &impl Print) -> io::Result<()> {
     let low = add_arc(open, c, 0.0, 1.0, 50.0, 50.0, 50.0);
     let both = add_arc(low, c, 100.0, -1.0, 50.0, 50.0, 50.0);
     let p = Vec2 { x: 20.0, y: 50.0 };
-    let hole = PieceArc::With(ProfileArc {
+    let hole = Some(ProfileArc {
         center: Vec2 { x: 10.0, y: 50.0 },
         ccw: false,
     });
@@ -394,7 +389,7 @@ fn cylinder_with_a_hole(rt: &impl Print) -> io::Result<()> {
 fn wall(to: Vec2) -> Integrals {
     sums_of(cut_walls::with_cut_wall(
         Integrals::NOTHING,
-        piece(Vec2 { x: 0.0, y: 0.0 }, to, PieceArc::Without),
+        piece(Vec2 { x: 0.0, y: 0.0 }, to, None),
         40.0,
         60.0,
         HERE,

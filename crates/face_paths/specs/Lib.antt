@@ -1,4 +1,5 @@
 pub mod ArcPaths
+pub mod Laws
 pub mod Paths
 pub mod PiecePaths
 pub mod PieceRates

@@ -1,11 +1,11 @@
 -- The running sums of a face after a path.
-use Rattle.std.specs.Prelude.{Float}
+use Rattle.traces.specs.declared.Trace.{Trace}
+use Rattle.profile_arcs.specs.declared.ProfileArc.{ProfileArc}
+use Rattle.std.specs.Prelude.{Float, Option}
 use Rattle.checked.specs.Checked.{Checked, ◌>>=◌, given}
 use Rattle.vectors.specs.declared.Vec2.{Vec2}
 use Rattle.vectors.specs.declared.Vec3.{Vec3}
 use Rattle.developments.specs.declared.Development.{Development}
-use Rattle.piece_curves.specs.declared.PieceArc.{PieceArc}
-use Rattle.piece_curves.specs.declared.PieceTrace.{PieceTrace}
 use Rattle.piece_curves.specs.PieceCurves.{curve_c}
 use Rattle.piece_lengths.specs.Counts.{quadrature_c}
 use Rattle.arcs.specs.declared.Arc.{Arc}
@@ -26,7 +26,7 @@ face_path_at (track.Arc c) = arc_path_at c
 face_path_at (track.Piece d) = piece_path_at d
 
 -- the running sums after a piece of the development `dev`
-unfoldable pub piece_path_c : Revolved → Development → Vec2 → Vec2 → PieceArc → PieceTrace → Integrals → Checked Integrals
+unfoldable pub piece_path_c : Revolved → Development → Vec2 → Vec2 → Option ProfileArc → Option Trace → Integrals → Checked Integrals
 piece_path_c v dev from to arc trace s = do
   c ← piece_path_of_c v.frame dev.origin dev.axis dev.start (curve_c from to dev.neutral arc trace)
   n ← quadrature_c c.run
@@ -41,7 +41,7 @@ with_arc_c cone o arc u v s = do
   arc_path_c w arc u v s
 
 -- a piece
-unfoldable pub with_piece_c : Cone → Vec3 → Development → Vec2 → Vec2 → PieceArc → PieceTrace → Integrals → Checked Integrals
+unfoldable pub with_piece_c : Cone → Vec3 → Development → Vec2 → Vec2 → Option ProfileArc → Option Trace → Integrals → Checked Integrals
 with_piece_c cone o dev from to arc trace s = do
   w ← revolved_c cone o
   piece_path_c w dev from to arc trace s

@@ -9,7 +9,6 @@ use Rattle.cones.specs.declared.Frame.{Frame}
 use Rattle.integrals.specs.Sums.{side}
 use Rattle.integrals.specs.declared.integrands.PathPoint.{PathPoint}
 use Rattle.piece_curves.specs.declared.PieceCurve.{PieceCurve}
-use Rattle.piece_curves.specs.declared.CheckedPieceCurve.{CheckedPieceCurve}
 use Rattle.face_paths.specs.PieceRates.{rate_c}
 use Rattle.face_paths.specs.declared.piece_paths.PiecePath.{PiecePath}
 
@@ -22,10 +21,6 @@ piece_path_of_c f origin axis start piece = do
   z ← (vec origin ⊟ vec f.origin) ⊡ vec f.axis
   run ← piece
   given (record { run = run; start = a; side = side d; z = z })
-
--- a piece that was worked out
-abbrev pub held : CheckedPieceCurve → Checked PieceCurve
-held r = record { refusal = r.refusal; value = r.value }
 
 -- where the piece is at t, from 0 at its first end to 1 at its last
 unfoldable pub piece_path_at : PiecePath → Float → Checked PathPoint

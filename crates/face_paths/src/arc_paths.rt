@@ -1,15 +1,17 @@
 // An arc as a path on a surface of revolution. Numbers may be of any size.
 ghost use Rattle.std.specs.Prelude.{◌≡◌};
+ghost use Rattle.checked.specs.Checked.{answered};
+ghost use Rattle.checked.specs.Told.{told};
 ghost use Rattle.face_paths.specs.ArcPaths.{arc_path_of_c, arc_path_at};
 
 use arcs::Arc;
 use arcs::sweep::sweep;
-use checked::{FRAC_PI_4, earlier, note};
+use checked::{FRAC_PI_4, Refusal, finite};
 use chord_counts::counts::{MOST, count};
 use cones::Frame;
 use cones::formula::angle;
 use float_bits::fabs;
-use integrals::integrands::{CheckedPathPoint, PathPoint};
+use integrals::integrands::PathPoint;
 use integrals::side;
 use vectors::Vec3;
 use vectors::formula::{dot, minus};
@@ -24,54 +26,33 @@ pub struct ArcPath {
     pub stretches: u16,
 }
 
-// A course, with the refusal that its computation met first; 0 is none.
-#[derive(Clone, Copy)]
-pub struct CheckedArcPath {
-    pub value: ArcPath,
-    pub refusal: u8,
-}
-
 // The course of the arc from u to v.
-pub fn arc_path_of(f: Frame, arc: Arc, u: Vec3, v: Vec3) -> CheckedArcPath
-    ensures refusal { result.refusal ≡ (arc_path_of_c f arc u v).refusal }
-    ensures value { result.value ≡ (arc_path_of_c f arc u v).value }
+pub fn arc_path_of(f: Frame, arc: Arc, u: Vec3, v: Vec3) -> Result<ArcPath, Refusal>
+    ensures { told result ≡ answered (arc_path_of_c f arc u v) }
 {
-    let s = sweep(arc.center, arc.axis, u, v);
-    let d = dot(arc.axis, f.axis);
-    let turn = s.value * side(d);
-    let a = angle(f, u);
-    let z = dot(minus(arc.center, f.origin), f.axis);
-    let q = fabs(turn) / FRAC_PI_4;
-    let n = count(q, 1.0, MOST);
-    CheckedArcPath {
-        value: ArcPath {
-            start: a.value,
-            turn: turn,
-            z: z,
-            stretches: n.value,
-        },
-        refusal: earlier(
-            note(
-                note(earlier(note(note(s.refusal, d), turn), a.refusal), z),
-                q,
-            ),
-            n.refusal,
-        ),
-    }
+    let s = sweep(arc.center, arc.axis, u, v)?;
+    let d = finite(dot(arc.axis, f.axis))?;
+    let turn = finite(s * side(d))?;
+    let start = angle(f, u)?;
+    let z = finite(dot(minus(arc.center, f.origin), f.axis))?;
+    let q = finite(fabs(turn) / FRAC_PI_4)?;
+    let stretches = count(q, 1.0, MOST)?;
+    Ok(ArcPath {
+        start,
+        turn,
+        z,
+        stretches,
+    })
 }
 
 // Where the course is at t, from 0 at its first end to 1 at its last.
-pub fn arc_path_at(c: ArcPath, t: f64) -> CheckedPathPoint
-    ensures refusal { result.refusal ≡ (arc_path_at c t).refusal }
-    ensures value { result.value ≡ (arc_path_at c t).value }
+pub fn arc_path_at(c: ArcPath, t: f64) -> Result<PathPoint, Refusal>
+    ensures { told result ≡ answered (arc_path_at c t) }
 {
-    let theta = c.start + c.turn * t;
-    CheckedPathPoint {
-        value: PathPoint {
-            theta: theta,
-            z: c.z,
-            turn: c.turn,
-        },
-        refusal: note(0, theta),
-    }
+    let theta = finite(c.start + c.turn * t)?;
+    Ok(PathPoint {
+        theta,
+        z: c.z,
+        turn: c.turn,
+    })
 }

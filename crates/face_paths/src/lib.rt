@@ -1,40 +1,48 @@
-// The running sums of a face after a path, an arc or a piece of a development: the loops over its
-// panels and their nodes. Numbers may be of any size.
+// The running sums of a face after a path, an arc or a piece of a development. Numbers may be of any
+// size.
 #![tactic(auto)]
 
 ghost use Rattle.std.specs.Prelude.{◌≡◌};
-ghost use Rattle.checked.specs.Checked.{first};
-ghost use Rattle.integrals.specs.Gauss.{panel_at_c};
-ghost use Rattle.integrals.specs.Along.{node_at_c, path_along_c};
+ghost use Rattle.checked.specs.Told.{told};
+ghost use Rattle.checked.specs.Checked.{answered};
+ghost use Rattle.integrals.specs.Along.{node_at_c};
 ghost use Rattle.face_paths.specs.Paths.{face_path_at, with_arc_c, with_piece_c};
 
 use crate::arc_paths::{ArcPath, arc_path_at, arc_path_of};
 use crate::piece_paths::{PiecePath, piece_path_at, piece_path_of};
 use arcs::Arc;
-use checked::{earlier, note};
+use checked::Refusal;
 use cones::Cone;
 use developments::Development;
-use integrals::integrands::{CheckedPathPoint, Revolved, node, revolve};
-use integrals::{CheckedIntegrals, CheckedSurfaceIntegrals, Integrals, WEIGHTS, lies, lies_noted};
-use piece_curves::{PieceArc, PieceTrace, curve_of};
+use integrals::integrands::{PathPoint, Revolved, node, revolve};
+use integrals::panels::{Summand, along};
+use integrals::{Integrals, SurfaceIntegrals};
 use piece_lengths::counts::quadrature_pieces;
+use profile_arcs::ProfileArc;
+use traces::Trace;
 use vectors::{Vec2, Vec3};
 
 pub mod arc_paths;
 pub mod piece_paths;
 pub mod piece_rates;
 
-// A path as the loops run along it.
+// A path as its integral runs along it.
 #[derive(Clone, Copy)]
 pub enum FacePath {
     Arc(ArcPath),
     Piece(PiecePath),
 }
 
+// A path on its surface.
+#[derive(Clone, Copy)]
+pub struct Outline {
+    pub surface: Revolved,
+    pub path: FacePath,
+}
+
 // Where the path is at t.
-fn place_at(k: FacePath, t: f64) -> CheckedPathPoint
-    ensures refusal { result.refusal ≡ (face_path_at k t).refusal }
-    ensures value { result.value ≡ (face_path_at k t).value }
+fn place_at(k: FacePath, t: f64) -> Result<PathPoint, Refusal>
+    ensures { told result ≡ answered (face_path_at k t) }
 {
     match k {
         FacePath::Arc(c) => arc_path_at(c, t),
@@ -42,87 +50,19 @@ fn place_at(k: FacePath, t: f64) -> CheckedPathPoint
     }
 }
 
-// The sums after the node at t.
-fn node_at(
-    v: Revolved,
-    k: FacePath,
-    h: f64,
-    wgt: f64,
-    t: f64,
-    s: CheckedSurfaceIntegrals,
-) -> CheckedSurfaceIntegrals
-    ensures refusal { result.refusal ≡ first s.refusal (node_at_c v (face_path_at k) h wgt t s.value).refusal }
-    ensures value { result.value ≡ (node_at_c v (face_path_at k) h wgt t s.value).value }
-{
-    let q = place_at(k, t);
-    let p = q.value;
-    let sums = s.value;
-    node(
-        v,
-        p,
-        h,
-        wgt,
-        CheckedSurfaceIntegrals {
-            value: sums,
-            refusal: earlier(s.refusal, q.refusal),
-        },
-    )
-}
+impl Summand for Outline {
+    ghost added_c = { λ k. node_at_c k.surface (face_path_at k.path) };
 
-// The panel i, of length h.
-fn panel(
-    v: Revolved,
-    k: FacePath,
-    h: f64,
-    i: u16,
-    s: CheckedSurfaceIntegrals,
-) -> CheckedSurfaceIntegrals
-    ensures refusal { result.refusal ≡ first s.refusal (panel_at_c (node_at_c v (face_path_at k)) h i s.value).refusal }
-    ensures value { result.value ≡ (panel_at_c (node_at_c v (face_path_at k)) h i s.value).value }
-{
-    let mid = h * ((i as f64) + 0.5);
-    let start = s.value;
-    let mut a = CheckedSurfaceIntegrals {
-        value: start,
-        refusal: note(s.refusal, mid),
-    };
-    let mut j: usize = 0;
-    while j < 8 {
-        let sums = a.value;
-        let r = lies_noted(a.refusal, h, mid, j);
-        a = node_at(
-            v,
-            k,
-            h,
-            WEIGHTS[j / 2],
-            lies(h, mid, j),
-            CheckedSurfaceIntegrals {
-                value: sums,
-                refusal: r,
-            },
-        );
-        j += 1;
+    fn added(
+        &self,
+        h: f64,
+        wgt: f64,
+        t: f64,
+        s: SurfaceIntegrals,
+    ) -> Result<SurfaceIntegrals, Refusal> {
+        let p = place_at(self.path, t)?;
+        node(self.surface, p, h, wgt, s)
     }
-    a
-}
-
-// All n panels of the path.
-fn along(v: Revolved, k: FacePath, n: u16, s: CheckedSurfaceIntegrals) -> CheckedSurfaceIntegrals
-    ensures refusal { result.refusal ≡ first s.refusal (path_along_c v (face_path_at k) n s.value).refusal }
-    ensures value { result.value ≡ (path_along_c v (face_path_at k) n s.value).value }
-{
-    let h = 1.0 / (n as f64);
-    let start = s.value;
-    let mut a = CheckedSurfaceIntegrals {
-        value: start,
-        refusal: note(s.refusal, h),
-    };
-    let mut i: u16 = 0;
-    while i < n {
-        a = panel(v, k, h, i, a);
-        i += 1;
-    }
-    a
 }
 
 // The running sums after the arc from u to v.
@@ -133,30 +73,14 @@ pub fn with_arc(
     u: Vec3,
     v: Vec3,
     sums: Integrals,
-) -> CheckedIntegrals
-    ensures refusal { result.refusal ≡ (with_arc_c cone o arc u v sums).refusal }
-    ensures value { result.value ≡ (with_arc_c cone o arc u v sums).value }
+) -> Result<Integrals, Refusal>
+    ensures { told result ≡ answered (with_arc_c cone o arc u v sums) }
 {
-    let w = revolve(cone, o);
-    let s = w.value;
-    let c = arc_path_of(s.frame, arc, u, v);
-    let d = c.value;
-    let n = d.stretches;
-    let before = sums.surface;
-    let a = along(
-        s,
-        FacePath::Arc(d),
-        n,
-        CheckedSurfaceIntegrals {
-            value: before,
-            refusal: earlier(w.refusal, c.refusal),
-        },
-    );
-    let after = a.value;
-    CheckedIntegrals {
-        value: Integrals { surface: after },
-        refusal: a.refusal,
-    }
+    let surface = revolve(cone, o)?;
+    let d = arc_path_of(surface.frame, arc, u, v)?;
+    let path = FacePath::Arc(d);
+    let after = along(&Outline { surface, path }, d.stretches, sums.surface)?;
+    Ok(Integrals { surface: after })
 }
 
 // The running sums after a piece of the development `dev`.
@@ -166,32 +90,16 @@ pub fn with_piece(
     dev: Development,
     from: Vec2,
     to: Vec2,
-    arc: PieceArc,
-    trace: PieceTrace,
+    arc: Option<ProfileArc>,
+    trace: Option<Trace>,
     sums: Integrals,
-) -> CheckedIntegrals
-    ensures refusal { result.refusal ≡ (with_piece_c cone o dev from to arc trace sums).refusal }
-    ensures value { result.value ≡ (with_piece_c cone o dev from to arc trace sums).value }
+) -> Result<Integrals, Refusal>
+    ensures { told result ≡ answered (with_piece_c cone o dev from to arc trace sums) }
 {
-    let w = revolve(cone, o);
-    let s = w.value;
-    let r = curve_of(from, to, dev.neutral, arc, trace);
-    let c = piece_path_of(s.frame, dev.origin, dev.axis, dev.start, r);
-    let d = c.value;
-    let n = quadrature_pieces(d.run);
-    let before = sums.surface;
-    let a = along(
-        s,
-        FacePath::Piece(d),
-        n.value,
-        CheckedSurfaceIntegrals {
-            value: before,
-            refusal: earlier(earlier(w.refusal, c.refusal), n.refusal),
-        },
-    );
-    let after = a.value;
-    CheckedIntegrals {
-        value: Integrals { surface: after },
-        refusal: a.refusal,
-    }
+    let surface = revolve(cone, o)?;
+    let d = piece_path_of(surface.frame, dev, from, to, arc, trace)?;
+    let n = quadrature_pieces(d.run)?;
+    let path = FacePath::Piece(d);
+    let after = along(&Outline { surface, path }, n, sums.surface)?;
+    Ok(Integrals { surface: after })
 }

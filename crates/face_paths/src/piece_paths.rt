@@ -1,15 +1,21 @@
 // A piece of a development as a path on a cylinder. Numbers may be of any size.
 ghost use Rattle.std.specs.Prelude.{◌≡◌};
-ghost use Rattle.face_paths.specs.PiecePaths.{held, piece_path_of_c, piece_path_at};
+ghost use Rattle.checked.specs.Checked.{answered};
+ghost use Rattle.checked.specs.Told.{told};
+ghost use Rattle.piece_curves.specs.PieceCurves.{curve_c};
+ghost use Rattle.face_paths.specs.PiecePaths.{piece_path_of_c, piece_path_at};
 
 use crate::piece_rates::rate_at;
-use checked::{earlier, note};
+use checked::{Refusal, finite};
 use cones::Frame;
-use integrals::integrands::{CheckedPathPoint, PathPoint};
+use developments::Development;
+use integrals::integrands::PathPoint;
 use integrals::side;
-use piece_curves::{CheckedPieceCurve, PieceCurve};
+use piece_curves::{PieceCurve, curve_of};
+use profile_arcs::ProfileArc;
 use profile_arcs::angles::angle;
-use vectors::Vec3;
+use traces::Trace;
+use vectors::Vec2;
 use vectors::formula::{dot, minus};
 
 // A piece on a cylinder: the angle where its development starts, which way its u turns, and where
@@ -22,55 +28,37 @@ pub struct PiecePath {
     pub z: f64,
 }
 
-// A drift, with the refusal that its computation met first; 0 is none.
-#[derive(Clone, Copy)]
-pub struct CheckedPiecePath {
-    pub value: PiecePath,
-    pub refusal: u8,
-}
-
-// The drift of a piece whose development has this origin, axis and start.
+// The path of a piece of the development `dev`.
 pub fn piece_path_of(
     f: Frame,
-    origin: Vec3,
-    axis: Vec3,
-    start: Vec3,
-    run: CheckedPieceCurve,
-) -> CheckedPiecePath
-    ensures refusal { result.refusal ≡ (piece_path_of_c f origin axis start (held run)).refusal }
-    ensures value { result.value ≡ (piece_path_of_c f origin axis start (held run)).value }
+    dev: Development,
+    from: Vec2,
+    to: Vec2,
+    arc: Option<ProfileArc>,
+    trace: Option<Trace>,
+) -> Result<PiecePath, Refusal>
+    ensures { told result ≡ answered (piece_path_of_c f dev.origin dev.axis dev.start (curve_c from to dev.neutral arc trace)) }
 {
-    let d = dot(axis, f.axis);
-    let a = angle(dot(start, f.e2), dot(start, f.e1));
-    let z = dot(minus(origin, f.origin), f.axis);
-    let r = run.value;
-    CheckedPiecePath {
-        value: PiecePath {
-            run: r,
-            start: a.value,
-            side: side(d),
-            z: z,
-        },
-        refusal: earlier(note(earlier(note(0, d), a.refusal), z), run.refusal),
-    }
+    let d = finite(dot(dev.axis, f.axis))?;
+    let start = angle(dot(dev.start, f.e2), dot(dev.start, f.e1))?;
+    let z = finite(dot(minus(dev.origin, f.origin), f.axis))?;
+    let run = curve_of(from, to, dev.neutral, arc, trace)?;
+    Ok(PiecePath {
+        run,
+        start,
+        side: side(d),
+        z,
+    })
 }
 
 // Where the piece is at t, from 0 at its first end to 1 at its last.
-pub fn piece_path_at(c: PiecePath, t: f64) -> CheckedPathPoint
-    ensures refusal { result.refusal ≡ (piece_path_at c t).refusal }
-    ensures value { result.value ≡ (piece_path_at c t).value }
+pub fn piece_path_at(c: PiecePath, t: f64) -> Result<PathPoint, Refusal>
+    ensures { told result ≡ answered (piece_path_at c t) }
 {
     let n = c.run.neutral;
-    let g = rate_at(c.run, t);
-    let theta = c.start + c.side * g.value.u / n;
-    let z = c.z + c.side * g.value.v;
-    let turn = c.side * g.value.du / n;
-    CheckedPathPoint {
-        value: PathPoint {
-            theta: theta,
-            z: z,
-            turn: turn,
-        },
-        refusal: note(note(note(g.refusal, theta), z), turn),
-    }
+    let g = rate_at(c.run, t)?;
+    let theta = finite(c.start + c.side * g.u / n)?;
+    let z = finite(c.z + c.side * g.v)?;
+    let turn = finite(c.side * g.du / n)?;
+    Ok(PathPoint { theta, z, turn })
 }

@@ -6,7 +6,7 @@
 #![tactic(auto)]
 
 use arcs::Arc;
-use checked::{NumberAnswer, TAU};
+use checked::TAU;
 use libm::atan2;
 use std::io;
 use std::num::wrapping_add_u64;
@@ -27,10 +27,7 @@ fn about_z() -> Arc {
 
 // The sweep from a point to another, or 0, which is no sweep, where it is refused.
 fn sweep_of(from: Vec3, to: Vec3) -> f64 {
-    match about_z().sweep(from, to) {
-        NumberAnswer::Value(x) => x,
-        NumberAnswer::Refused(r) => 0.0,
-    }
+    about_z().sweep(from, to).unwrap_or(0.0)
 }
 
 // The sweep from a point to the one beside it with another y, given by its pattern.
@@ -89,13 +86,11 @@ fn is_drawn_as_proved(seed: u64) -> bool {
 fn count(calls: u32) -> u32 {
     let mut seed = 1;
     let mut good = 0;
-    let mut i = 0;
-    while i < calls {
+    for _ in 0..calls {
         if is_drawn_as_proved(seed) {
             good = std::num::wrapping_add_u32(good, 1);
         }
         seed = drawn(seed);
-        i += 1;
     }
     good
 }

@@ -1,7 +1,9 @@
 pub mod Along
+pub mod FoldLaws
 pub mod Gauss
 pub mod Integrands
 pub mod IntegrandsLaws
 pub mod Laws
+pub mod PanelLaws
 pub mod Sound
 pub mod Sums

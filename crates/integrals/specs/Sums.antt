@@ -1,16 +1,12 @@
--- The sums over a body's faces, and what a call that adds to them is due to answer.
+-- The sums over a body's faces.
 use Rattle.std.specs.Prelude.{ℕ, Bool, cond, ◌&&◌, Float}
 use Rattle.std.specs.Float.Ieee.{lt, neg}
 use Rattle.checked.specs.Refusals.{NOT_FINITE}
-use Rattle.checked.specs.Checked.{is_finite, Due, due, refused}
-use Rattle.checked.specs.Answers.{number_of, after}
+use Rattle.checked.specs.Checked.{is_finite}
 use Rattle.checked.specs.Numbers.{zero, one}
 use Rattle.vectors.specs.Vectors.{origin, is_finite3}
 use Rattle.integrals.specs.declared.SurfaceIntegrals.{SurfaceIntegrals}
 use Rattle.integrals.specs.declared.Integrals.{Integrals}
-use Rattle.integrals.specs.declared.SumsOutcome.{SumsOutcome}
-use Rattle.integrals.specs.declared.SumsAnswer.{SumsAnswer}
-use Rattle.integrals.specs.declared.SumsAnswer.TheVariants as added_variants
 
 -- ---- what is integrated over surfaces
 -- all eight numbers are finite
@@ -33,13 +29,3 @@ finite_sums s = finite_surface s.surface
 -- nothing summed yet
 abbrev pub nothing : Integrals
 nothing = record { surface = record { six_v = zero; moment = origin; area = zero; area_vector = origin } }
-
--- what the code's answer says
-abbrev pub added_due : SumsAnswer → Due Integrals
-added_due (added_variants.Sums s) = due s
-added_due (added_variants.Refused n) = refused n
-
--- ---- calls on lent sums
--- what is left of them, and the number that the call answers
-abbrev pub outcome : Integrals → Due Integrals → SumsOutcome
-outcome s d = record { sums = after s d; number = number_of d }

@@ -1,18 +1,19 @@
 // What is integrated over a surface of revolution, and the step of a sum at one node. Numbers may
 // be of any size.
 ghost use Rattle.std.specs.Prelude.{◌≡◌};
-ghost use Rattle.checked.specs.Checked.{first};
+ghost use Rattle.checked.specs.Told.{told};
+ghost use Rattle.checked.specs.Checked.{settled, answered};
 ghost use Rattle.libm.specs.Sincos.{sincos_c};
 ghost use Rattle.integrals.specs.Integrands.{revolved_c, radial_normal_c, patch_c, term_c, term3_c, terms_c, node_c};
 
-use crate::{CheckedSurfaceIntegrals, SurfaceIntegrals};
-use checked::{earlier, note};
+use crate::SurfaceIntegrals;
+use checked::{Refusal, finite};
 use cones::formula::own_frame;
 use cones::{Cone, Frame};
 use libm::sincos::sincos;
 use rounding::sqrt;
 use vectors::Vec3;
-use vectors::formula::{dot, minus, noted, plus, times};
+use vectors::formula::{dot, finite3, minus, plus, times};
 
 // A surface of revolution as the integrands read it: `p0` is where its origin lies from the point
 // that volumes are measured from, and `stretch` the length of a step along the surface over one
@@ -26,25 +27,11 @@ pub struct Revolved {
     pub stretch: f64,
 }
 
-// A surface, with the refusal that its computation met first; 0 is none.
-#[derive(Clone, Copy)]
-pub struct CheckedRevolved {
-    pub value: Revolved,
-    pub refusal: u8,
-}
-
 // The direction away from the axis at an angle, and the normal there, not of length 1.
 #[derive(Clone, Copy)]
 pub struct RadialNormal {
     pub out: Vec3,
     pub normal: Vec3,
-}
-
-// A bearing, with the refusal of its angle; that of its vectors is for the caller to note.
-#[derive(Clone, Copy)]
-pub struct CheckedRadialNormal {
-    pub value: RadialNormal,
-    pub refusal: u8,
 }
 
 // Where a path is: its angle, its place along the axis, and how fast the angle turns.
@@ -55,47 +42,28 @@ pub struct PathPoint {
     pub turn: f64,
 }
 
-// A place, with the refusal that its computation met first; 0 is none.
-#[derive(Clone, Copy)]
-pub struct CheckedPathPoint {
-    pub value: PathPoint,
-    pub refusal: u8,
+pub fn revolve(c: Cone, o: Vec3) -> Result<Revolved, Refusal>
+    ensures { told result ≡ answered (revolved_c c o) }
+{
+    let frame = own_frame(c)?;
+    let p0 = finite3(minus(c.origin, o))?;
+    let stretch = finite(sqrt(1.0 + c.slope * c.slope))?;
+    Ok(Revolved {
+        frame,
+        p0,
+        radius: c.radius,
+        slope: c.slope,
+        stretch,
+    })
 }
 
-pub fn revolve(c: Cone, o: Vec3) -> CheckedRevolved
-    ensures refusal { result.refusal ≡ (revolved_c c o).refusal }
-    ensures value { result.value ≡ (revolved_c c o).value }
+fn radial_normal_at(v: Revolved, theta: f64) -> Result<RadialNormal, Refusal>
+    ensures { told result ≡ settled (sincos_c theta).refusal (radial_normal_c v theta).value }
 {
-    let f = own_frame(c);
-    let fr = f.value;
-    let p0 = minus(c.origin, o);
-    let stretch = sqrt(1.0 + c.slope * c.slope);
-    CheckedRevolved {
-        value: Revolved {
-            frame: fr,
-            p0: p0,
-            radius: c.radius,
-            slope: c.slope,
-            stretch: stretch,
-        },
-        refusal: note(noted(p0, f.refusal), stretch),
-    }
-}
-
-fn radial_normal_at(v: Revolved, theta: f64) -> CheckedRadialNormal
-    ensures refusal { result.refusal ≡ (sincos_c theta).refusal }
-    ensures value { result.value ≡ (radial_normal_c v theta).value }
-{
-    let s = sincos(theta);
+    let s = sincos(theta)?;
     let out = plus(times(v.frame.e1, s.cos), times(v.frame.e2, s.sin));
     let normal = minus(out, times(v.frame.axis, v.slope));
-    CheckedRadialNormal {
-        value: RadialNormal {
-            out: out,
-            normal: normal,
-        },
-        refusal: s.refusal,
-    }
+    Ok(RadialNormal { out, normal })
 }
 
 // The integrands at s along the axis.
@@ -105,10 +73,9 @@ fn patch(v: Revolved, b: RadialNormal, s: f64) -> SurfaceIntegrals
     let r = v.radius + v.slope * s;
     let x = plus(plus(v.p0, times(b.out, r)), times(v.frame.axis, s));
     let height = dot(v.p0, b.normal) + r - v.slope * s;
-    let m = times(x, 6.0 * r * height);
     SurfaceIntegrals {
         six_v: 2.0 * r * height,
-        moment: m,
+        moment: times(x, 6.0 * r * height),
         area: r * v.stretch,
         area_vector: Vec3 {
             x: r * b.normal.x,
@@ -165,24 +132,18 @@ pub fn node(
     p: PathPoint,
     h: f64,
     wgt: f64,
-    s: CheckedSurfaceIntegrals,
-) -> CheckedSurfaceIntegrals
-    ensures refusal { result.refusal ≡ first s.refusal (node_c v p h wgt s.value).refusal }
-    ensures value { result.value ≡ (node_c v p h wgt s.value).value }
+    s: SurfaceIntegrals,
+) -> Result<SurfaceIntegrals, Refusal>
+    ensures { told result ≡ answered (node_c v p h wgt s) }
 {
-    let c = radial_normal_at(v, p.theta);
-    let b = c.value;
+    let b = radial_normal_at(v, p.theta)?;
     let w = 0.5 * h * wgt * p.turn * p.z / 6.0;
-    let before = s.value;
     let after = terms(
         w,
-        before,
+        s,
         patch(v, b, 0.0),
         patch(v, b, 0.5 * p.z),
         patch(v, b, p.z),
     );
-    CheckedSurfaceIntegrals {
-        value: after,
-        refusal: after.noted(earlier(s.refusal, c.refusal)),
-    }
+    after.finite()
 }

@@ -31,13 +31,12 @@ fn is_near(line: &[u8], k: usize, got: f64) -> bool {
 
 // The sine by both functions that give it, and the cosine.
 fn are_sines_near(line: &[u8], x: f64) -> bool {
-    let a = sincos::sin(x);
-    let b = sincos::sincos(x);
-    (a.refusal == 0)
-        & (b.refusal == 0)
-        & is_near(line, 1, a.value)
-        & is_near(line, 1, b.sin)
-        & is_near(line, 2, b.cos)
+    match (sincos::sin(x), sincos::sincos(x)) {
+        (Ok(sin), Ok(both)) => {
+            is_near(line, 1, sin) & is_near(line, 1, both.sin) & is_near(line, 2, both.cos)
+        }
+        _ => false,
+    }
 }
 
 fn is_known(line: &[u8]) -> bool {
@@ -54,11 +53,7 @@ fn is_known(line: &[u8]) -> bool {
 
 // A line that holds no value: empty, or a comment.
 fn is_comment(line: &[u8]) -> bool {
-    if line.len() > 0 {
-        line[0] == b'#'
-    } else {
-        true
-    }
+    line.is_empty() || line[0] == b'#'
 }
 
 fn step(rt: &impl Print, line: &[u8], p: Progress) -> io::Result<Progress> {
@@ -123,10 +118,11 @@ fn run(rt: &impl Print, file: &File) -> io::Result<Progress> {
         near: 0,
         off: 0,
     };
-    let mut turns = MOST;
-    while turns > 0 && !p.is_over {
+    for _ in 0..MOST {
         p = next(rt, file, p)?;
-        turns -= 1;
+        if p.is_over {
+            break;
+        }
     }
     Ok(p)
 }

@@ -1,5 +1,6 @@
 -- Which angles are refused, and by which number; sine and cosine of the zeros. Assumes nothing.
-use Rattle.std.specs.Prelude.{◌≡◌, refl, Bool, true, false, T, Float}
+use Rattle.std.specs.Prelude.{◌≡◌, refl, Bool, true, false, cond, T, Float}
+use Rattle.std.proofs.Common.{arith}
 use Rattle.std.specs.Float.Ieee.{neg, le, to_bits, of_bits}
 use Rattle.checked.specs.Refusals.{ANGLE_TOO_LARGE, NOT_FINITE}
 use Rattle.checked.specs.Checked.{first, nine, eight, is_finite, within}
@@ -17,6 +18,16 @@ finite_is false h = absurd h
 pub meets_none : (x : Float) → within x ≡ true → first (nine x) (eight x) ≡ 0
 unfolding nine eight first
 meets_none x h = simp (h, finite_is (is_finite x) (within_finite x (yes h)))
+
+-- and only for it
+pub within_where_none : (x : Float) → 0 ≡ first (nine x) (eight x) → within x ≡ true
+unfolding nine eight first
+within_where_none x h = go (is_finite x) (within x) h
+  where
+    go : (f w : Bool) → 0 ≡ first (cond f 0 NOT_FINITE) (cond w 0 ANGLE_TOO_LARGE) → w ≡ true
+    go f true h = refl
+    go true false h = absurd (omega arith)
+    go false false h = absurd (omega arith)
 
 -- 8 where it is finite and above that, 9 where it is not finite
 pub meets_eight : (x : Float) → is_finite x ≡ true → within x ≡ false → first (nine x) (eight x) ≡ ANGLE_TOO_LARGE

@@ -1,38 +1,31 @@
 // Sine and cosine of libm 0.2.1 at angles of at most 1,048,576 in magnitude: specs/Circle.antt has
 // them operation by operation.
 ghost use Rattle.std.specs.Prelude.{◌≡◌, T};
-ghost use Rattle.checked.specs.Checked.{first, nine, eight, within};
+ghost use Rattle.checked.specs.Told.{told, failed};
+ghost use Rattle.checked.specs.Checked.{answered, first, nine, eight, within};
 ghost use Rattle.libm.specs.Sincos as Circle;
 
 use crate::k_trig::{k_cos, k_sin, k_sin0};
 use crate::rem_pio2::{Rest, rem_pio2};
-use checked::{ANGLE_TOO_LARGE, CheckedNumber, earlier, high_word, is_within, note};
+use checked::{Refusal, finite, high_word, is_within};
 use float_bits::choose;
 
+// The sine and the cosine of an angle.
 #[derive(Clone, Copy)]
 pub struct Sines {
     pub sin: f64,
     pub cos: f64,
 }
 
-// A sine and a cosine, with the refusal that their angle met; 0 is none. It stands between them so
-// that the two are read one by one, as they are stored: a pair read at once would wait until both
-// have left for memory.
-#[derive(Clone, Copy)]
-pub struct CheckedSines {
-    pub sin: f64,
-    pub refusal: u8,
-    pub cos: f64,
-}
-
-// The refusal that an angle meets.
-fn angle_refusal(x: f64) -> u8
-    ensures { result ≡ first (nine x) (eight x) }
+// An angle is finite, and at most 1,048,576 in magnitude.
+fn require_angle(x: f64) -> Result<(), Refusal>
+    ensures { failed result ≡ first (nine x) (eight x) }
 {
     if is_within(x) {
-        note(0, x)
+        Ok(())
     } else {
-        earlier(note(0, x), ANGLE_TOO_LARGE)
+        finite(x)?;
+        Err(Refusal::AngleTooLarge)
     }
 }
 
@@ -69,21 +62,11 @@ fn sine(x: f64) -> f64
     }
 }
 
-pub fn sin(x: f64) -> CheckedNumber
-    ensures refusal { result.refusal ≡ (Circle.sin_c x).refusal }
-    ensures value { result.value ≡ (Circle.sin_c x).value }
+pub fn sin(x: f64) -> Result<f64, Refusal>
+    ensures { told result ≡ answered (Circle.sin_c x) }
 {
-    if is_within(x) {
-        CheckedNumber {
-            refusal: 0,
-            value: sine(x),
-        }
-    } else {
-        CheckedNumber {
-            refusal: angle_refusal(x),
-            value: 0.0,
-        }
-    }
+    require_angle(x)?;
+    Ok(sine(x))
 }
 
 fn small_sines(ix: u64, x: f64) -> Sines
@@ -122,23 +105,9 @@ fn both_sines(x: f64) -> Sines
     }
 }
 
-pub fn sincos(x: f64) -> CheckedSines
-    ensures refusal { result.refusal ≡ (Circle.sincos_c x).refusal }
-    ensures sin { result.sin ≡ (Circle.sincos_c x).value.sin }
-    ensures cos { result.cos ≡ (Circle.sincos_c x).value.cos }
+pub fn sincos(x: f64) -> Result<Sines, Refusal>
+    ensures { told result ≡ answered (Circle.sincos_c x) }
 {
-    if is_within(x) {
-        let v = both_sines(x);
-        CheckedSines {
-            sin: v.sin,
-            refusal: 0,
-            cos: v.cos,
-        }
-    } else {
-        CheckedSines {
-            sin: 0.0,
-            refusal: angle_refusal(x),
-            cos: 0.0,
-        }
-    }
+    require_angle(x)?;
+    Ok(both_sines(x))
 }

@@ -1,21 +1,14 @@
 -- What the entry on meets is due to answer.
 use Rattle.std.specs.Prelude.{Bool, true, ◌&&◌, Float}
 use Rattle.checked.specs.Refusals.{OUT_OF_RANGE}
-use Rattle.checked.specs.Checked.{within, Due, due, refused, answered}
+use Rattle.checked.specs.Checked.{within, Due, answered}
 use Rattle.checked.specs.Tests.{fails, ◌or◌, passing, neutral_test}
 use Rattle.vectors.specs.Vectors.{within3}
 use Rattle.meets.specs.declared.generatrix.Jet.{Jet}
 use Rattle.meets.specs.declared.Turn.{Turn}
 use Rattle.meets.specs.declared.Turn.TheVariants as turn
 use Rattle.meets.specs.declared.Meet.{Meet}
-use Rattle.meets.specs.declared.MeetPointAnswer.{MeetPointAnswer}
-use Rattle.meets.specs.declared.MeetPointAnswer.TheVariants as meet_point
 use Rattle.meets.specs.Meets.{derivatives_c}
-
--- what the code's answer says
-abbrev pub points_due : MeetPointAnswer → Due Jet
-points_due (meet_point.Value v) = due v
-points_due (meet_point.Refused n) = refused n
 
 -- all numbers of a meet pass the test of what is handed in
 unfoldable pub turn_within : Turn → Bool

@@ -1,7 +1,10 @@
 -- Which notes suffice along a generatrix. Assumes nothing.
-use Rattle.std.specs.Prelude.{◌≡◌, Float}
+use Rattle.std.specs.Prelude.{◌≡◌, true, false, Float}
+use Rattle.std.specs.Float.{binary64}
+use Rattle.std.specs.Float.Ieee.{add, sub, div, neg, le}
 use Rattle.checked.specs.Checked.{first, nine}
 use Rattle.checked.specs.Laws.{rules as checked_rules}
+use Rattle.checked.specs.Numbers.{zero}
 use Rattle.libm.specs.Sincos.{sincos_c}
 use Rattle.directions.specs.Directions.{over_length_c}
 use Rattle.directions.specs.Laws.{over_length_refusal, rules as directions_rules}
@@ -31,3 +34,21 @@ quadratic p phi =
 pub reach_refusal : (p : Pipe) (phi : Float) → (intersection_c p phi).refusal ≡ first (sincos_c phi).refusal (first (nine (intersection_c p phi).value.root) (lesser_c (quadratic p phi)).refusal)
 unfolding intersection_c
 reach_refusal p phi = simp all
+
+-- the lesser root, by the sign of b: the divisor is noted by itself
+module _ (q : Quadratic) where
+  pub near_refusal : le q.b zero ≡ true → (lesser_c q).refusal ≡ first (nine (sub binary64 q.root q.b)) (nine (div binary64 q.cc (sub binary64 q.root q.b)))
+  unfolding lesser_c
+  near_refusal h = simp (h, checked_rules)
+
+  pub near_value : le q.b zero ≡ true → (lesser_c q).value ≡ div binary64 q.cc (sub binary64 q.root q.b)
+  unfolding lesser_c
+  near_value h = simp h
+
+  pub far_refusal : le q.b zero ≡ false → (lesser_c q).refusal ≡ nine (div binary64 (neg (add binary64 q.b q.root)) q.aa)
+  unfolding lesser_c
+  far_refusal h = simp (h, checked_rules)
+
+  pub far_value : le q.b zero ≡ false → (lesser_c q).value ≡ div binary64 (neg (add binary64 q.b q.root)) q.aa
+  unfolding lesser_c
+  far_value h = simp h

@@ -1,12 +1,17 @@
 -- The refusal of each step of a motion in the notes that suffice. Assumes nothing.
 use Rattle.std.specs.Prelude.{◌≡◌, Float}
+use Rattle.std.specs.Float.{binary64}
+use Rattle.std.specs.Float.Ieee.{sub}
 use Rattle.checked.specs.Checked.{first, nine}
-use Rattle.checked.specs.Laws.{rules as checked_rules}
+use Rattle.checked.specs.Laws.{first_zero, zero_first, rules as checked_rules}
+use Rattle.checked.specs.Numbers.{one}
+use Rattle.libm.specs.Sincos.{sincos_c}
+use Rattle.directions.specs.Directions.{over_length_c}
 use Rattle.vectors.specs.declared.Vec3.{Vec3}
 use Rattle.vectors.specs.Vectors.{nines, space}
 use Rattle.vectors.specs.Laws.{nines_are, rules as vectors_rules}
 use Rattle.motions.specs.declared.Rigid.{Rigid}
-use Rattle.motions.specs.Motions.{diagonal_c, more_c, less_c, rows_c, rows_nine, apply_vector_c, apply_c}
+use Rattle.motions.specs.Motions.{diagonal_c, more_c, less_c, rows_c, rows_nine, rotation_c, apply_vector_c, apply_c}
 
 pub diagonal_nine : (t a c : Float) → (diagonal_c t a c).refusal ≡ nine (diagonal_c t a c).value
 unfolding diagonal_c
@@ -35,5 +40,10 @@ rows_nine_lem k s c t = simp (diagonal_nine, more_nine, less_nine, checked_rules
 pub apply_nine : (m : Rigid) (p : Vec3) → (apply_c m p).refusal ≡ nines (apply_c m p).value
 unfolding apply_c
 apply_nine m p = simp (apply_vector_nine, vectors_rules, checked_rules)
+
+-- the axis, the angle, what is left of 1, the rows: each is noted by itself
+pub rotation_refusal : (axis : Vec3) (angle : Float) → (rotation_c axis angle).refusal ≡ first (over_length_c axis).refusal (first (sincos_c angle).refusal (first (nine (sub binary64 one (sincos_c angle).value.cos)) (rows_nine (rotation_c axis angle).value.rot)))
+unfolding rotation_c
+rotation_refusal axis angle = simp (rows_nine_lem, first_zero, zero_first)
 
 pub ruleset rules = (rows_nine_lem, apply_vector_nine, apply_nine)

@@ -1,7 +1,7 @@
 -- Rigid motions, as the Rust works them out.
 use Rattle.std.specs.Prelude.{ℕ, Bool, ◌&&◌, Float}
 use Rattle.checked.specs.Refusals.{OUT_OF_RANGE}
-use Rattle.checked.specs.Checked.{Checked, first, ◌>>=◌, given, num, ◌⊕◌, ◌⊖◌, ◌⊗◌, within, Due, due, refused, answered}
+use Rattle.checked.specs.Checked.{Checked, first, ◌>>=◌, given, num, ◌⊕◌, ◌⊖◌, ◌⊗◌, within, Due, due, answered}
 use Rattle.checked.specs.Tests.{fails, passing}
 use Rattle.checked.specs.Numbers.{one}
 use Rattle.libm.specs.Sincos.{sincos_c}
@@ -10,13 +10,6 @@ use Rattle.vectors.specs.declared.Vec3.{Vec3}
 use Rattle.vectors.specs.Vectors.{origin, space, within3, nines, vec, ◌⊞◌, ◌⊡◌}
 use Rattle.motions.specs.declared.Rows.{Rows}
 use Rattle.motions.specs.declared.Rigid.{Rigid}
-use Rattle.motions.specs.declared.RigidAnswer.{RigidAnswer}
-use Rattle.motions.specs.declared.RigidAnswer.TheVariants as motion
-
--- what the code's answer says
-abbrev pub motion_due : RigidAnswer → Due Rigid
-motion_due (motion.Value m) = due m
-motion_due (motion.Refused n) = refused n
 
 -- all twelve numbers of a motion pass the test of what is handed in
 unfoldable pub within_rigid : Rigid → Bool

@@ -1,11 +1,14 @@
 // A point and a direction, moved together: the axis of an arc, a cylinder or a cone, a plane with its normal.
 ghost use Rattle.std.specs.Prelude.{◌≡◌};
+ghost use Rattle.checked.specs.Checked.{answered};
+ghost use Rattle.checked.specs.Told.{told};
 ghost use Rattle.motions.specs.Axes.{moved_c};
 
 use crate::Rigid;
 use crate::formula::{apply, apply_vector};
+use checked::Refusal;
 use vectors::Vec3;
-use vectors::formula::noted;
+use vectors::formula::finite3;
 
 // A line through a point.
 #[derive(Clone, Copy)]
@@ -14,24 +17,10 @@ pub struct Axis {
     pub along: Vec3,
 }
 
-// An axis, with the refusal that its computation met first; 0 is none.
-#[derive(Clone, Copy)]
-pub struct CheckedAxis {
-    pub value: Axis,
-    pub refusal: u8,
-}
-
-pub fn moved(m: Rigid, origin: Vec3, along: Vec3) -> CheckedAxis
-    ensures refusal { result.refusal ≡ (moved_c m origin along).refusal }
-    ensures value { result.value ≡ (moved_c m origin along).value }
+pub fn moved(m: Rigid, origin: Vec3, along: Vec3) -> Result<Axis, Refusal>
+    ensures { told result ≡ answered (moved_c m origin along) }
 {
-    let o = apply(m, origin);
-    let a = apply_vector(m, along);
-    CheckedAxis {
-        refusal: noted(a, noted(o, 0)),
-        value: Axis {
-            origin: o,
-            along: a,
-        },
-    }
+    let origin = finite3(apply(m, origin))?;
+    let along = finite3(apply_vector(m, along))?;
+    Ok(Axis { origin, along })
 }

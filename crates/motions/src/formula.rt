@@ -1,14 +1,15 @@
 // The formulas of motions on numbers of any size.
 ghost use Rattle.std.specs.Prelude.{◌≡◌};
-ghost use Rattle.checked.specs.Checked.{first};
+ghost use Rattle.checked.specs.Told.{told};
+ghost use Rattle.checked.specs.Checked.{answered, settled};
 ghost use Rattle.motions.specs.Motions.{diagonal_c, more_c, less_c, rows_c, rows_nine, rotation_c, apply_vector_c, apply_c, frame_of};
 
-use crate::{CheckedRigid, Rigid, Rows};
-use checked::{earlier, note};
+use crate::{Rigid, Rows};
+use checked::{Refusal, finite};
 use directions::formula::over_length;
 use libm::sincos::sincos;
-use vectors::formula::{dot, noted, plus, times};
-use vectors::{CheckedVec3, Vec3};
+use vectors::Vec3;
+use vectors::formula::{dot, finite3, plus};
 
 fn diagonal(t: f64, a: f64, c: f64) -> f64
     ensures { result ≡ (diagonal_c t a c).value }
@@ -93,26 +94,25 @@ pub fn apply(m: Rigid, p: Vec3) -> Vec3
     plus(apply_vector(m, p), m.shift)
 }
 
-// The refusal met first: r where there is one, else that of the rows' numbers.
-fn rows_noted(m: Rows, r: u8) -> u8
-    ensures { result ≡ first r (rows_nine m) }
+// Rows that the result depends on, or the refusal where one of their numbers is not finite.
+fn finite_rows(m: Rows) -> Result<Rows, Refusal>
+    ensures { told result ≡ settled (rows_nine m) m }
 {
-    noted(m.z, noted(m.y, noted(m.x, r)))
+    finite3(m.x)?;
+    finite3(m.y)?;
+    finite3(m.z)?;
+    Ok(m)
 }
 
-pub fn rotation(axis: Vec3, angle: f64) -> CheckedRigid
-    ensures refusal { result.refusal ≡ (rotation_c axis angle).refusal }
-    ensures value { result.value ≡ (rotation_c axis angle).value }
+pub fn rotation(axis: Vec3, angle: f64) -> Result<Rigid, Refusal>
+    ensures { told result ≡ answered (rotation_c axis angle) }
 {
-    let k = over_length(axis);
-    let a = sincos(angle);
-    let t = 1.0 - a.cos;
-    let m = rows(k.value, a.sin, a.cos, t);
-    CheckedRigid {
-        refusal: rows_noted(m, note(earlier(k.refusal, a.refusal), t)),
-        value: Rigid {
-            rot: m,
-            shift: Vec3::ZERO,
-        },
-    }
+    let k = over_length(axis)?;
+    let a = sincos(angle)?;
+    let t = finite(1.0 - a.cos)?;
+    let rot = finite_rows(rows(k, a.sin, a.cos, t))?;
+    Ok(Rigid {
+        rot,
+        shift: Vec3::ZERO,
+    })
 }

@@ -1,15 +1,13 @@
 -- A piece of a development as an array of 26 numbers. Two tags say which of the numbers are used: the
 -- others are not read, and stay what they were where a piece is put to the array.
-use Rattle.std.specs.Prelude.{ℕ, Bool, cond, ◌&&◌, List, [], ◌∷◌, ◌++◌, eqb, leb, Float}
+use Rattle.traces.specs.declared.Trace.{Trace}
+use Rattle.profile_arcs.specs.declared.ProfileArc.{ProfileArc}
+use Rattle.std.specs.Prelude.{ℕ, Bool, cond, ◌&&◌, List, [], ◌∷◌, ◌++◌, eqb, leb, Float, Some, None, Option}
 use Rattle.vectors.specs.declared.Vec2.{Vec2}
 use Rattle.meets.specs.declared.Turn.{Turn}
 use Rattle.meets.specs.declared.Turn.TheVariants as turn
 use Rattle.meets.specs.declared.Meet.{Meet}
 use Rattle.traces.specs.declared.Trace.TheVariants as trace
-use Rattle.piece_curves.specs.declared.PieceArc.{PieceArc}
-use Rattle.piece_curves.specs.declared.PieceArc.TheVariants as arc_variants
-use Rattle.piece_curves.specs.declared.PieceTrace.{PieceTrace}
-use Rattle.piece_curves.specs.declared.PieceTrace.TheVariants as trace_variants
 use Rattle.pieces.specs.declared.Rolled.{Rolled}
 use Rattle.c_arrays.specs.Records.{vec2_at, over}
 use Rattle.c_arrays.specs.DevelopmentRecords.{development_at, of_development}
@@ -39,11 +37,11 @@ unfoldable pub is_piece : ℕ → ℕ → Bool
 is_piece arc trace = leb arc 2 && leb trace 3
 
 -- the arc about a centre
-abbrev pub piece_arc : ℕ → Vec2 → PieceArc
-piece_arc tag c = cond (eqb tag 0) arc_variants.Without (arc_variants.With (record { center = c; ccw = eqb tag 1 }))
+abbrev pub piece_arc : ℕ → Vec2 → Option ProfileArc
+piece_arc tag c = cond (eqb tag 0) None (Some (record { center = c; ccw = eqb tag 1 }))
 
-abbrev pub piece_trace : List Float → ℕ → PieceTrace
-piece_trace l tag = cond (eqb tag 0) trace_variants.Without (trace_variants.With (trace_at l TRACE tag))
+abbrev pub piece_trace : List Float → ℕ → Option Trace
+piece_trace l tag = cond (eqb tag 0) None (Some (trace_at l TRACE tag))
 
 abbrev pub piece : List Float → ℕ → ℕ → Rolled
 piece l arc trace = record {
@@ -56,9 +54,9 @@ piece l arc trace = record {
 
 -- ---- the tags of a piece
 -- 0 none, 1 counterclockwise, 2 clockwise
-unfoldable pub arc_tag : PieceArc → ℕ
-arc_tag arc_variants.Without = 0
-arc_tag (arc_variants.With a) = cond a.ccw 1 2
+unfoldable pub arc_tag : Option ProfileArc → ℕ
+arc_tag None = 0
+arc_tag (Some a) = cond a.ccw 1 2
 
 -- 2 a meet without `turn`, 3 a meet with it
 unfoldable pub turn_tag : Turn → ℕ
@@ -66,10 +64,10 @@ turn_tag turn.Without = 2
 turn_tag (turn.Angles f g) = 3
 
 -- 0 none, 1 a wave, else a meet's
-unfoldable pub trace_tag : PieceTrace → ℕ
-trace_tag trace_variants.Without = 0
-trace_tag (trace_variants.With (trace.Wave w)) = 1
-trace_tag (trace_variants.With (trace.Meet m)) = turn_tag m.turn
+unfoldable pub trace_tag : Option Trace → ℕ
+trace_tag None = 0
+trace_tag (Some (trace.Wave w)) = 1
+trace_tag (Some (trace.Meet m)) = turn_tag m.turn
 
 abbrev pub tags_of : Rolled → List ℕ
 tags_of p = arc_tag p.arc ∷ trace_tag p.trace ∷ []
@@ -79,9 +77,9 @@ abbrev pub of_ends : Vec2 → Vec2 → List Float
 of_ends from to = from.x ∷ from.y ∷ to.x ∷ to.y ∷ []
 
 -- the arc's centre, where there is one
-unfoldable pub of_centre : PieceArc → List Float
-of_centre arc_variants.Without = []
-of_centre (arc_variants.With a) = a.center.x ∷ a.center.y ∷ []
+unfoldable pub of_centre : Option ProfileArc → List Float
+of_centre None = []
+of_centre (Some a) = a.center.x ∷ a.center.y ∷ []
 
 -- the two angles, where there are two
 unfoldable pub of_turn : Turn → List Float
@@ -96,10 +94,10 @@ unfoldable pub of_meet : Meet → List Float
 of_meet m = of_cylinder m ++ of_turn m.turn
 
 -- a wave's a, b, c, or a meet's numbers, where there is a trace
-unfoldable pub of_trace : PieceTrace → List Float
-of_trace trace_variants.Without = []
-of_trace (trace_variants.With (trace.Wave w)) = w.a ∷ w.b ∷ w.c ∷ []
-of_trace (trace_variants.With (trace.Meet m)) = of_meet m
+unfoldable pub of_trace : Option Trace → List Float
+of_trace None = []
+of_trace (Some (trace.Wave w)) = w.a ∷ w.b ∷ w.c ∷ []
+of_trace (Some (trace.Meet m)) = of_meet m
 
 -- each part at its place over what the array held
 unfoldable pub with_piece : List Float → Rolled → List Float

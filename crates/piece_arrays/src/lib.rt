@@ -12,7 +12,6 @@ use c_arrays::development_records::{development_at, put_development};
 use c_arrays::trace_records::trace_at;
 use c_arrays::vec2_at;
 use meets::{Meet, Turn};
-use piece_curves::{PieceArc, PieceTrace};
 use pieces::Rolled;
 use profile_arcs::ProfileArc;
 use traces::Trace;
@@ -37,27 +36,27 @@ pub fn is_piece(arc: u32, trace: u32) -> bool
     (arc <= 2) & (trace <= 3)
 }
 
-fn arc_of(tag: u32, c: Vec2) -> PieceArc
+fn arc_of(tag: u32, c: Vec2) -> Option<ProfileArc>
     ensures { result ≡ piece_arc tag c }
 {
     if tag == 0 {
-        PieceArc::Without
+        None
     } else {
-        PieceArc::With(ProfileArc {
+        Some(ProfileArc {
             center: c,
             ccw: tag == 1,
         })
     }
 }
 
-fn trace_of(a: &[f64], tag: u32) -> PieceTrace
+fn trace_of(a: &[f64], tag: u32) -> Option<Trace>
     requires { 26 ≤ length a.now }
     ensures { result ≡ piece_trace a.now tag }
 {
     if tag == 0 {
-        PieceTrace::Without
+        None
     } else {
-        PieceTrace::With(trace_at(a, TRACE, tag))
+        Some(trace_at(a, TRACE, tag))
     }
 }
 
@@ -82,30 +81,27 @@ pub fn piece_of(a: &[f64; 26], arc: u32, trace: u32) -> Rolled
 }
 
 // 0 without an arc, 1 counterclockwise, 2 clockwise.
-pub fn arc_tag(arc: PieceArc) -> u32
+pub fn arc_tag(arc: Option<ProfileArc>) -> u32
     ensures { result ≡ arc_tag arc }
 {
     match arc {
-        PieceArc::Without => 0,
-        PieceArc::With(a) => { if a.ccw { 1 } else { 2 } }
+        None => 0,
+        Some(a) => { if a.ccw { 1 } else { 2 } }
     }
 }
 
 // 0 without a trace, 1 a wave, 2 a meet without `turn`, 3 a meet with it.
-pub fn trace_tag(trace: PieceTrace) -> u32
+pub fn trace_tag(trace: Option<Trace>) -> u32
     ensures { result ≡ trace_tag trace }
 {
     match trace {
-        PieceTrace::Without => 0,
-        PieceTrace::With(t) => match t {
+        None => 0,
+        Some(t) => match t {
             Trace::Wave(_) => 1,
-            Trace::Meet(m) => {
-                let k = m.turn;
-                match k {
-                    Turn::Without => 2,
-                    Turn::Angles(_, _) => 3,
-                }
-            }
+            Trace::Meet(m) => match m.turn {
+                Turn::Without => 2,
+                Turn::Angles(_, _) => 3,
+            },
         },
     }
 }
@@ -121,13 +117,13 @@ fn put_ends(from: Vec2, to: Vec2, out: &mut [f64])
     out[TO + 1] = to.y;
 }
 
-fn put_centre(arc: PieceArc, out: &mut [f64])
+fn put_centre(arc: Option<ProfileArc>, out: &mut [f64])
     requires { 26 ≤ length out.old }
     ensures { out.new ≡ over out.old CENTRE (of_centre arc) }
 {
     match arc {
-        PieceArc::Without => {}
-        PieceArc::With(a) => {
+        None => {}
+        Some(a) => {
             out[CENTRE] = a.center.x;
             out[CENTRE + 1] = a.center.y;
         }
@@ -166,18 +162,17 @@ fn put_meet(m: Meet, out: &mut [f64])
     requires { 26 ≤ length out.old }
     ensures { out.new ≡ over out.old TRACE (of_meet m) }
 {
-    let k = m.turn;
     put_cylinder(m, &mut *out);
-    put_turn(k, &mut *out);
+    put_turn(m.turn, &mut *out);
 }
 
-fn put_trace(trace: PieceTrace, out: &mut [f64])
+fn put_trace(trace: Option<Trace>, out: &mut [f64])
     requires { 26 ≤ length out.old }
     ensures { out.new ≡ over out.old TRACE (of_trace trace) }
 {
     match trace {
-        PieceTrace::Without => {}
-        PieceTrace::With(t) => match t {
+        None => {}
+        Some(t) => match t {
             Trace::Wave(w) => {
                 out[TRACE] = w.a;
                 out[TRACE + 1] = w.b;
@@ -193,11 +188,8 @@ pub fn put_piece(p: Rolled, out: &mut [f64])
     requires { 26 ≤ length out.old }
     ensures { out.new ≡ with_piece out.old p }
 {
-    let d = p.dev;
-    let a = p.arc;
-    let t = p.trace;
-    put_development(d, &mut *out);
+    put_development(p.dev, &mut *out);
     put_ends(p.from, p.to, &mut *out);
-    put_centre(a, &mut *out);
-    put_trace(t, &mut *out);
+    put_centre(p.arc, &mut *out);
+    put_trace(p.trace, &mut *out);
 }

@@ -53,6 +53,10 @@ spot_c c t = do
   phi ← angle_c c t
   reaches.point_c c.pipe phi
 
+-- the same, refused up to the cylinder met: its own numbers are not tried
+abbrev pub ended_c : MeetCurve → Float → Checked Vec3
+ended_c c t = record { refusal = (intersection_at_c c t).refusal; value = (spot_c c t).value }
+
 -- ---- the first derivative in t
 -- of v
 unfoldable pub slope_v_c : MeetCurve → Float → Checked Float

@@ -4,7 +4,7 @@ use Rattle.std.proofs.Common.{sym, ap, subst}
 use Rattle.std.specs.Float.{binary64}
 use Rattle.std.specs.Float.Ieee.{add, mul}
 use Rattle.checked.specs.Checked.{Checked, first, nine, ◌>>=◌}
-use Rattle.checked.specs.Laws.{first_zero, swap, rules as checked_rules}
+use Rattle.checked.specs.Laws.{first_zero, first_assoc, swap, rules as checked_rules}
 use Rattle.profile_arcs.specs.Angles.{atan2_c}
 use Rattle.rounding.specs.Laws.{rounded}
 use Rattle.vectors.specs.declared.Vec3.{Vec3}
@@ -66,6 +66,17 @@ run_y c t = add binary64 (speed c t).d1.y (mul binary64 c.pipe.a.y (speed c t).t
 pub around_refusal : (c : MeetCurve) (t : Float) → (around_c c t).refusal ≡ first (nine (rate_c c).value) (first (nine (angle_c c t).value) (first (intersection_c c.pipe (angle_c c t).value).refusal (first (reaches.first_derivatives_c c.pipe (reached c t)).refusal (first (nine (square c t)) (nine (around_c c t).value)))))
 unfolding around_c
 around_refusal c t = simp (rate_nine, angle_nine, swap (run_x c t) (square c t), swap (run_y c t) (square c t), all)
+
+-- the same by the generatrix at t
+pub intersection_at_refusal : (c : MeetCurve) (t : Float) → (intersection_at_c c t).refusal ≡ first (nine (angle_c c t).value) (intersection_c c.pipe (angle_c c t).value).refusal
+unfolding intersection_at_c
+intersection_at_refusal c t = simp angle_nine
+
+pub slope_v_met : (c : MeetCurve) (t : Float) → (slope_v_c c t).refusal ≡ first (nine (rate_c c).value) (first (intersection_at_c c t).refusal (first (reaches.first_derivatives_c c.pipe (reached c t)).refusal (nine (slope_v_c c t).value)))
+slope_v_met c t = simp (slope_v_refusal, intersection_at_refusal, first_assoc)
+
+pub around_met : (c : MeetCurve) (t : Float) → (around_c c t).refusal ≡ first (nine (rate_c c).value) (first (intersection_at_c c t).refusal (first (reaches.first_derivatives_c c.pipe (reached c t)).refusal (first (nine (square c t)) (nine (around_c c t).value))))
+around_met c t = simp (around_refusal, intersection_at_refusal, first_assoc)
 
 pub near_nine : (c : MeetCurve) (q : Vec3) → (near_c c q).refusal ≡ nine (near_c c q).value
 unfolding near_c

@@ -1,15 +1,12 @@
 -- What a piece of a development follows, ready to be followed.
-use Rattle.std.specs.Prelude.{Float}
+use Rattle.profile_arcs.specs.declared.ProfileArc.{ProfileArc}
+use Rattle.std.specs.Prelude.{Float, Some, None, Option}
 use Rattle.checked.specs.Checked.{Checked, ◌>>=◌, given}
 use Rattle.vectors.specs.declared.Vec2.{Vec2}
 use Rattle.meets.specs.declared.Meet.{Meet}
 use Rattle.meets.specs.Meets.{pipe_c}
 use Rattle.traces.specs.declared.Trace.{Trace}
 use Rattle.traces.specs.declared.Trace.TheVariants as trace
-use Rattle.piece_curves.specs.declared.PieceArc.{PieceArc}
-use Rattle.piece_curves.specs.declared.PieceArc.TheVariants as arc_variants
-use Rattle.piece_curves.specs.declared.PieceTrace.{PieceTrace}
-use Rattle.piece_curves.specs.declared.PieceTrace.TheVariants as trace_variants
 use Rattle.piece_curves.specs.declared.CurveKind.{CurveKind}
 use Rattle.piece_curves.specs.declared.CurveKind.TheVariants as way
 use Rattle.piece_curves.specs.declared.PieceCurve.{PieceCurve}
@@ -32,18 +29,18 @@ traced_c from to n (trace.Wave w) = given (way.Wave w)
 traced_c from to n (trace.Meet m) = meet_kind_c from to n m
 
 -- without a trace: along an arc, or straight on
-unfoldable pub untraced : PieceArc → CurveKind
-untraced (arc_variants.With a) = way.Arc a
-untraced arc_variants.Without = way.Straight
+unfoldable pub untraced : Option ProfileArc → CurveKind
+untraced (Some a) = way.Arc a
+untraced None = way.Straight
 
 -- a piece with both is refused where it is handed in, so which of the two goes first makes no
 -- difference
-unfoldable pub kind_c : Vec2 → Vec2 → Float → PieceArc → PieceTrace → Checked CurveKind
-kind_c from to n arc (trace_variants.With t) = traced_c from to n t
-kind_c from to n arc trace_variants.Without = given (untraced arc)
+unfoldable pub kind_c : Vec2 → Vec2 → Float → Option ProfileArc → Option Trace → Checked CurveKind
+kind_c from to n arc (Some t) = traced_c from to n t
+kind_c from to n arc None = given (untraced arc)
 
 -- a piece ready to be followed
-unfoldable pub curve_c : Vec2 → Vec2 → Float → PieceArc → PieceTrace → Checked PieceCurve
+unfoldable pub curve_c : Vec2 → Vec2 → Float → Option ProfileArc → Option Trace → Checked PieceCurve
 curve_c from to n arc trace' = do
   w ← kind_c from to n arc trace'
   given (curve_by from to n w)

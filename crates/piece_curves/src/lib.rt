@@ -3,9 +3,12 @@
 #![tactic(auto)]
 
 ghost use Rattle.std.specs.Prelude.{◌≡◌};
+ghost use Rattle.checked.specs.Checked.{answered};
+ghost use Rattle.checked.specs.Told.{told};
 ghost use Rattle.piece_curves.specs.PieceCurves.{meet_kind_c, traced_c, untraced, kind_c, curve_c};
 
 use crate::meet_curves::MeetCurve;
+use checked::Refusal;
 use meets::Meet;
 use meets::formula::pipe;
 use profile_arcs::ProfileArc;
@@ -17,32 +20,12 @@ pub mod meet_curves;
 pub mod points;
 pub mod space_points;
 
-// The arc of a piece, where it has one.
-#[derive(Clone, Copy)]
-pub enum PieceArc {
-    Without,
-    With(ProfileArc),
-}
-
-// The trace of a piece, where it has one.
-#[derive(Clone, Copy)]
-pub enum PieceTrace {
-    Without,
-    With(Trace),
-}
-
 #[derive(Clone, Copy)]
 pub enum CurveKind {
     Straight,
     Arc(ProfileArc),
     Wave(Wave),
     Meet(MeetCurve),
-}
-
-#[derive(Clone, Copy)]
-pub struct CheckedCurveKind {
-    pub value: CurveKind,
-    pub refusal: u8,
 }
 
 // A piece in its development: its ends, the neutral radius, and what it follows between them.
@@ -54,64 +37,49 @@ pub struct PieceCurve {
     pub way: CurveKind,
 }
 
-#[derive(Clone, Copy)]
-pub struct CheckedPieceCurve {
-    pub value: PieceCurve,
-    pub refusal: u8,
-}
-
-fn meet_way(from: Vec2, to: Vec2, neutral: f64, m: Meet) -> CheckedCurveKind
-    ensures refusal { result.refusal ≡ (meet_kind_c from to neutral m).refusal }
-    ensures value { result.value ≡ (meet_kind_c from to neutral m).value }
+fn meet_way(from: Vec2, to: Vec2, neutral: f64, m: Meet) -> Result<CurveKind, Refusal>
+    ensures { told result ≡ answered (meet_kind_c from to neutral m) }
 {
-    let x = pipe(m, neutral);
-    let p = x.value;
-    let k = m.turn;
-    let c = MeetCurve {
+    let pipe = pipe(m, neutral)?;
+    Ok(CurveKind::Meet(MeetCurve {
         from: from.x,
         to: to.x,
-        neutral: neutral,
-        turn: k,
-        pipe: p,
-    };
-    CheckedCurveKind {
-        refusal: x.refusal,
-        value: CurveKind::Meet(c),
-    }
+        neutral,
+        turn: m.turn,
+        pipe,
+    }))
 }
 
-fn traced(from: Vec2, to: Vec2, neutral: f64, t: Trace) -> CheckedCurveKind
-    ensures refusal { result.refusal ≡ (traced_c from to neutral t).refusal }
-    ensures value { result.value ≡ (traced_c from to neutral t).value }
+fn traced(from: Vec2, to: Vec2, neutral: f64, t: Trace) -> Result<CurveKind, Refusal>
+    ensures { told result ≡ answered (traced_c from to neutral t) }
 {
     match t {
-        Trace::Wave(w) => CheckedCurveKind {
-            refusal: 0,
-            value: CurveKind::Wave(w),
-        },
+        Trace::Wave(w) => Ok(CurveKind::Wave(w)),
         Trace::Meet(m) => meet_way(from, to, neutral, m),
     }
 }
 
-fn untraced(arc: PieceArc) -> CurveKind
+fn untraced(arc: Option<ProfileArc>) -> CurveKind
     ensures { result ≡ untraced arc }
 {
     match arc {
-        PieceArc::Without => CurveKind::Straight,
-        PieceArc::With(a) => CurveKind::Arc(a),
+        None => CurveKind::Straight,
+        Some(a) => CurveKind::Arc(a),
     }
 }
 
-fn way_of(from: Vec2, to: Vec2, neutral: f64, arc: PieceArc, trace: PieceTrace) -> CheckedCurveKind
-    ensures refusal { result.refusal ≡ (kind_c from to neutral arc trace).refusal }
-    ensures value { result.value ≡ (kind_c from to neutral arc trace).value }
+fn way_of(
+    from: Vec2,
+    to: Vec2,
+    neutral: f64,
+    arc: Option<ProfileArc>,
+    trace: Option<Trace>,
+) -> Result<CurveKind, Refusal>
+    ensures { told result ≡ answered (kind_c from to neutral arc trace) }
 {
     match trace {
-        PieceTrace::Without => CheckedCurveKind {
-            refusal: 0,
-            value: untraced(arc),
-        },
-        PieceTrace::With(t) => traced(from, to, neutral, t),
+        None => Ok(untraced(arc)),
+        Some(t) => traced(from, to, neutral, t),
     }
 }
 
@@ -120,21 +88,16 @@ pub fn curve_of(
     from: Vec2,
     to: Vec2,
     neutral: f64,
-    arc: PieceArc,
-    trace: PieceTrace,
-) -> CheckedPieceCurve
-    ensures refusal { result.refusal ≡ (curve_c from to neutral arc trace).refusal }
-    ensures value { result.value ≡ (curve_c from to neutral arc trace).value }
+    arc: Option<ProfileArc>,
+    trace: Option<Trace>,
+) -> Result<PieceCurve, Refusal>
+    ensures { told result ≡ answered (curve_c from to neutral arc trace) }
 {
-    let x = way_of(from, to, neutral, arc, trace);
-    let w = x.value;
-    CheckedPieceCurve {
-        refusal: x.refusal,
-        value: PieceCurve {
-            from: from,
-            to: to,
-            neutral: neutral,
-            way: w,
-        },
-    }
+    let way = way_of(from, to, neutral, arc, trace)?;
+    Ok(PieceCurve {
+        from,
+        to,
+        neutral,
+        way,
+    })
 }

@@ -1,14 +1,15 @@
 // Where a piece of a development is in space at t, from 0 at its first end to 1 at its last: what
 // drawing reads of it. How it moves there is not worked out. Numbers may be of any size.
 ghost use Rattle.std.specs.Prelude.{◌≡◌};
-ghost use Rattle.piece_curves.specs.SpacePoints.{straight_c, wave_c, flat_c, rolled_c};
+ghost use Rattle.checked.specs.Checked.{answered};
+ghost use Rattle.checked.specs.Told.{told};
+ghost use Rattle.piece_curves.specs.SpacePoints.{wave_c, flat_c, rolled_c};
 
-use crate::meet_curves::CheckedVec2;
-use crate::points::arc_point;
+use crate::points::{arc_point, straight_at};
 use crate::{CurveKind, PieceCurve, meet_curves};
-use checked::{earlier, note};
+use checked::{Refusal, finite};
 use developments::formulas;
-use vectors::{CheckedVec3, Vec2, Vec3};
+use vectors::{Vec2, Vec3};
 use waves::{Wave, values};
 
 // A piece at `radius` from the axis of its development: the sheet lies around the axis through
@@ -22,40 +23,20 @@ pub struct Rolling {
     pub run: PieceCurve,
 }
 
-fn straight_point(from: Vec2, to: Vec2, t: f64) -> CheckedVec2
-    ensures refusal { result.refusal ≡ (straight_c from to t).refusal }
-    ensures value { result.value ≡ (straight_c from to t).value }
+fn wave_point(w: Wave, from: Vec2, to: Vec2, n: f64, t: f64) -> Result<Vec2, Refusal>
+    ensures { told result ≡ answered (wave_c w from to n t) }
 {
-    let dx = to.x - from.x;
-    let dy = to.y - from.y;
-    let x = from.x + dx * t;
-    let y = from.y + dy * t;
-    CheckedVec2 {
-        value: Vec2 { x: x, y: y },
-        refusal: note(note(note(note(0, dx), dy), x), y),
-    }
-}
-
-fn wave_point(w: Wave, from: Vec2, to: Vec2, n: f64, t: f64) -> CheckedVec2
-    ensures refusal { result.refusal ≡ (wave_c w from to n t).refusal }
-    ensures value { result.value ≡ (wave_c w from to n t).value }
-{
-    let u = from.x + (to.x - from.x) * t;
-    let h = values::v(w.a, w.b, w.c, u, n);
-    CheckedVec2 {
-        value: Vec2 { x: u, y: h.value },
-        refusal: earlier(note(0, u), h.refusal),
-    }
+    let u = finite(from.x + (to.x - from.x) * t)?;
+    let v = values::v(w.a, w.b, w.c, u, n)?;
+    Ok(Vec2 { x: u, y: v })
 }
 
 // The point at t in the development.
-pub fn flat_point(r: PieceCurve, t: f64) -> CheckedVec2
-    ensures refusal { result.refusal ≡ (flat_c r t).refusal }
-    ensures value { result.value ≡ (flat_c r t).value }
+pub fn flat_point(r: PieceCurve, t: f64) -> Result<Vec2, Refusal>
+    ensures { told result ≡ answered (flat_c r t) }
 {
-    let w = r.way;
-    match w {
-        CurveKind::Straight => straight_point(r.from, r.to, t),
+    match r.way {
+        CurveKind::Straight => Ok(straight_at(r.from, r.to, t)?.p),
         CurveKind::Arc(a) => arc_point(a, r.from, r.to, t),
         CurveKind::Wave(v) => wave_point(v, r.from, r.to, r.neutral, t),
         CurveKind::Meet(c) => meet_curves::point(c, t),
@@ -63,17 +44,9 @@ pub fn flat_point(r: PieceCurve, t: f64) -> CheckedVec2
 }
 
 // The point at t, `radius` from the axis.
-pub fn rolled_point(g: Rolling, t: f64) -> CheckedVec3
-    ensures refusal { result.refusal ≡ (rolled_c g t).refusal }
-    ensures value { result.value ≡ (rolled_c g t).value }
+pub fn rolled_point(g: Rolling, t: f64) -> Result<Vec3, Refusal>
+    ensures { told result ≡ answered (rolled_c g t) }
 {
-    let run = g.run;
-    let f = flat_point(run, t);
-    let p = f.value;
-    let x = formulas::point(g.origin, g.axis, g.start, run.neutral, p, g.radius);
-    let v = x.value;
-    CheckedVec3 {
-        value: v,
-        refusal: earlier(f.refusal, x.refusal),
-    }
+    let p = flat_point(g.run, t)?;
+    formulas::point(g.origin, g.axis, g.start, g.run.neutral, p, g.radius)
 }

@@ -1,7 +1,9 @@
 -- `Rolled::measure`: a piece's radius, how far it turns, and its length.
-use Rattle.std.specs.Prelude.{ℕ, ◌+◌, Float}
-use Rattle.checked.specs.Checked.{Checked, ◌>>=◌, given, finite, num, ◌⊕◌, ◌⊖◌, ◌⊗◌, ◌⊘◌}
+use Rattle.std.specs.Prelude.{ℕ, ◌+◌, ◌≤◌, ◌≡◌, Float, Result}
+use Rattle.checked.specs.Checked.{Checked, answered, ◌>>=◌, given, finite, num, ◌⊕◌, ◌⊖◌, ◌⊗◌, ◌⊘◌}
 use Rattle.checked.specs.Numbers.{literal, float, zero}
+use Rattle.checked.specs.Told.{told}
+use Rattle.checked.specs.declared.Refusal.{Refusal}
 use Rattle.float_bits.specs.FloatBits.{fabs}
 use Rattle.libm.specs.Roots.{hypot}
 use Rattle.checked.specs.Loops.{fold_c}
@@ -42,6 +44,10 @@ unfoldable pub place_c : PieceCurve → ℕ → Checked Place
 place_c r k = do
   t ← num (float k) ⊘ num steps
   at_c r t
+
+-- what is met by calls that give these places
+abbrev pub IsPlace : (ℕ → Result Place Refusal → Type 0) → PieceCurve → Type 0
+IsPlace post r = (k : ℕ) (place : Result Place Refusal) → k ≤ CHORDS → post k place → told place ≡ answered (place_c r k)
 
 -- all of them, which come before the first chord
 unfoldable pub places_c : PieceCurve → Checked Place

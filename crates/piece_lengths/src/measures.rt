@@ -1,17 +1,18 @@
 // A piece's radius, how far it turns and its length, on numbers of any size.
 ghost use Rattle.std.specs.Prelude.{◌≡◌};
-ghost use Rattle.checked.specs.Checked.{first, nine};
-ghost use Rattle.vectors.specs.Vectors.{plane};
-ghost use Rattle.piece_curves.specs.MeetCurves.{placed_c};
-ghost use Rattle.piece_lengths.specs.Measures.{distance_c, place_c, longer_c, further_c, traced_c, wave_run, followed, segment_c, arc_c, measure_c};
+ghost use Rattle.checked.specs.Answers.{and_then};
+ghost use Rattle.checked.specs.Checked.{answered};
+ghost use Rattle.checked.specs.Told.{told};
+ghost use Rattle.piece_curves.specs.declared.PieceCurve.{PieceCurve};
+ghost use Rattle.piece_lengths.specs.Measures.{distance_c, place_c, longer_c, further_c, traced_c, IsPlace, wave_run, followed, segment_c, arc_c, measure_c};
 
-use checked::{CheckedNumber, earlier, note};
+use checked::{Refusal, finite};
 use float_bits::fabs;
 use libm::atan2::atan2;
 use libm::roots::hypot;
-use piece_curves::meet_curves::{CheckedPlace, MeetCurve, MeetRates, Place, motion, placed};
+use piece_curves::meet_curves::{MeetCurve, Place, motion, placed};
 use piece_curves::points::wave_at;
-use piece_curves::{CurveKind, PieceCurve, meet_curves};
+use piece_curves::{CurveKind, PieceCurve};
 use profile_arcs::ProfileArc;
 use vectors::Vec2;
 use waves::Wave;
@@ -24,206 +25,114 @@ pub struct Measure {
     pub length: f64,
 }
 
-#[derive(Clone, Copy)]
-pub struct CheckedMeasure {
-    pub value: Measure,
-    pub refusal: u8,
-}
-
 // How far b is from a.
-pub fn distance(a: Vec2, b: Vec2) -> CheckedNumber
-    ensures refusal { result.refusal ≡ (distance_c a b).refusal }
-    ensures value { result.value ≡ (distance_c a b).value }
+pub fn distance(a: Vec2, b: Vec2) -> Result<f64, Refusal>
+    ensures { told result ≡ answered (distance_c a b) }
 {
-    let x = b.x - a.x;
-    let y = b.y - a.y;
-    let d = hypot(x, y);
-    CheckedNumber {
-        refusal: note(note(note(0, x), y), d),
-        value: d,
-    }
+    let x = finite(b.x - a.x)?;
+    let y = finite(b.y - a.y)?;
+    finite(hypot(x, y))
 }
 
 // The place after k of 32 chords along a wave.
-fn wave_place(w: Wave, from: Vec2, to: Vec2, n: f64, k: u16) -> CheckedPlace
-    ensures refusal { result.refusal ≡ (place_c (wave_run from to n w) k).refusal }
-    ensures value { result.value ≡ (place_c (wave_run from to n w) k).value }
+fn wave_place(w: Wave, from: Vec2, to: Vec2, n: f64, k: u16) -> Result<Place, Refusal>
+    ensures { told result ≡ answered (place_c (wave_run from to n w) k) }
 {
-    let t = (k as f64) / 32.0;
-    let p = wave_at(w, from, to, n, t);
-    let v = p.value;
-    CheckedPlace {
-        refusal: earlier(note(0, t), p.refusal),
-        value: v,
-    }
+    let t = finite((k as f64) / 32.0)?;
+    wave_at(w, from, to, n, t)
 }
 
-// The place at t along a meet by its motion m there. The course itself would be copied at each chord.
-fn meet_place(c: MeetCurve, t: f64, m: MeetRates) -> CheckedPlace
-    ensures refusal { result.refusal ≡ first (nine t) (first m.ru (first m.rv (first m.rq (placed_c c t m.q).refusal))) }
-    ensures value { result.value ≡ record { p = (placed_c c t m.q).value; d = plane m.u m.v } }
+// The place after k of 32 chords along a meet. `at` of `meet_curves` would copy the course once more.
+fn meet_place(c: MeetCurve, k: u16) -> Result<Place, Refusal>
+    ensures { told result ≡ answered (place_c (followed c) k) }
 {
-    let p = placed(c, t, m.q);
-    let v = p.value;
-    CheckedPlace {
-        refusal: earlier(
-            note(0, t),
-            earlier(m.ru, earlier(m.rv, earlier(m.rq, p.refusal))),
-        ),
-        value: Place {
-            p: v,
-            d: Vec2 { x: m.u, y: m.v },
-        },
-    }
+    let t = finite((k as f64) / 32.0)?;
+    let m = motion(c, t);
+    let u = m.u?;
+    let v = m.v?;
+    let q = m.q?;
+    let p = placed(c, t, q)?;
+    Ok(Place {
+        p,
+        d: Vec2 { x: u, y: v },
+    })
 }
 
-// A length and the chord from a to b.
-fn longer(s: f64, a: Vec2, b: Vec2) -> CheckedNumber
-    ensures refusal { result.refusal ≡ (longer_c s a b).refusal }
-    ensures value { result.value ≡ (longer_c s a b).value }
+// A length, where it was not refused, and the chord from a to b.
+fn longer(s: Result<f64, Refusal>, a: Vec2, b: Vec2) -> Result<f64, Refusal>
+    ensures { told result ≡ and_then (told s) (λ l. answered (longer_c l a b)) }
 {
-    let d = distance(a, b);
-    let l = s + d.value;
-    CheckedNumber {
-        refusal: note(d.refusal, l),
-        value: l,
-    }
+    let l = s?;
+    let d = distance(a, b)?;
+    finite(l + d)
 }
 
-// A turn and that from the direction u to v.
-fn further(s: f64, u: Vec2, v: Vec2) -> CheckedNumber
-    ensures refusal { result.refusal ≡ (further_c s u v).refusal }
-    ensures value { result.value ≡ (further_c s u v).value }
+// A turn, where it was not refused, and that from the direction u to v.
+fn further(s: Result<f64, Refusal>, u: Vec2, v: Vec2) -> Result<f64, Refusal>
+    ensures { told result ≡ and_then (told s) (λ t. answered (further_c t u v)) }
 {
-    let y = u.x * v.y - u.y * v.x;
-    let x = u.x * v.x + u.y * v.y;
-    let a = atan2(y, x);
-    let t = s + fabs(a);
-    CheckedNumber {
-        refusal: note(note(note(note(0, y), x), a), t),
-        value: t,
-    }
+    let t = s?;
+    let y = finite(u.x * v.y - u.y * v.x)?;
+    let x = finite(u.x * v.x + u.y * v.y)?;
+    let a = finite(atan2(y, x))?;
+    finite(t + fabs(a))
 }
 
-// A wave as 32 chords. A refusal of a place comes before any of a chord.
-fn wave_traced(from: Vec2, to: Vec2, n: f64, w: Wave) -> CheckedMeasure
-    ensures refusal { result.refusal ≡ (traced_c (wave_run from to n w)).refusal }
-    ensures value { result.value ≡ (traced_c (wave_run from to n w)).value }
+// A trace as 32 chords between its places. A refusal of a place comes before any of a chord.
+fn traced<F: Fn(u16) -> Result<Place, Refusal>>(place: F) -> Result<Measure, Refusal>
+    requires { F.IsAlwaysCallable place }
+    ensures { (r : PieceCurve) → IsPlace (F.post place) r → told result ≡ answered (traced_c r) }
 {
-    let t0 = (0 as f64) / 32.0;
-    let start = wave_at(w, from, to, n, t0);
-    let mut before = start.value;
-    let mut met: u8 = earlier(note(0, t0), start.refusal);
-    let mut length = 0.0;
-    let mut rl: u8 = 0;
-    let mut turn = 0.0;
-    let mut rt: u8 = 0;
-    let mut j: u16 = 0;
-    while j < 32 {
-        let next = wave_place(w, from, to, n, j + 1);
-        let after = next.value;
-        let l = longer(length, before.p, after.p);
-        let a = further(turn, before.d, after.d);
-        length = l.value;
-        rl = earlier(rl, l.refusal);
-        turn = a.value;
-        rt = earlier(rt, a.refusal);
+    let mut before = place(0)?;
+    let mut length: Result<f64, Refusal> = Ok(0.0);
+    let mut turn: Result<f64, Refusal> = Ok(0.0);
+    for k in 0..32 {
+        let after = place(k + 1)?;
+        length = longer(length, before.p, after.p);
+        turn = further(turn, before.d, after.d);
         before = after;
-        met = earlier(met, next.refusal);
-        j += 1;
     }
-    CheckedMeasure {
-        refusal: earlier(met, earlier(rl, rt)),
-        value: Measure {
-            radius: 0.0,
-            turn: turn,
-            length: length,
-        },
-    }
+    let length = length?;
+    let turn = turn?;
+    Ok(Measure {
+        radius: 0.0,
+        turn,
+        length,
+    })
 }
 
-// A meet as 32 chords, likewise.
-fn meet_traced(c: MeetCurve) -> CheckedMeasure
-    ensures refusal { result.refusal ≡ (traced_c (followed c)).refusal }
-    ensures value { result.value ≡ (traced_c (followed c)).value }
+pub fn segment(from: Vec2, to: Vec2) -> Result<Measure, Refusal>
+    ensures { told result ≡ answered (segment_c from to) }
 {
-    let t0 = (0 as f64) / 32.0;
-    let start = meet_curves::at(c, t0);
-    let mut before = start.value;
-    let mut rp: u8 = earlier(note(0, t0), start.refusal);
-    let mut length = 0.0;
-    let mut rl: u8 = 0;
-    let mut turn = 0.0;
-    let mut rt: u8 = 0;
-    let mut k: u16 = 0;
-    while k < 32 {
-        let t = ((k + 1) as f64) / 32.0;
-        let m = motion(c, t);
-        let next = meet_place(c, t, m);
-        let after = next.value;
-        let l = longer(length, before.p, after.p);
-        let a = further(turn, before.d, after.d);
-        length = l.value;
-        rl = earlier(rl, l.refusal);
-        turn = a.value;
-        rt = earlier(rt, a.refusal);
-        before = after;
-        rp = earlier(rp, next.refusal);
-        k += 1;
-    }
-    CheckedMeasure {
-        refusal: earlier(rp, earlier(rl, rt)),
-        value: Measure {
-            radius: 0.0,
-            turn: turn,
-            length: length,
-        },
-    }
+    let length = distance(from, to)?;
+    Ok(Measure {
+        radius: 0.0,
+        turn: 0.0,
+        length,
+    })
 }
 
-pub fn segment(from: Vec2, to: Vec2) -> CheckedMeasure
-    ensures refusal { result.refusal ≡ (segment_c from to).refusal }
-    ensures value { result.value ≡ (segment_c from to).value }
+pub fn arc_measure(a: ProfileArc, from: Vec2, to: Vec2) -> Result<Measure, Refusal>
+    ensures { told result ≡ answered (arc_c a from to) }
 {
-    let d = distance(from, to);
-    CheckedMeasure {
-        refusal: d.refusal,
-        value: Measure {
-            radius: 0.0,
-            turn: 0.0,
-            length: d.value,
-        },
-    }
+    let radius = distance(a.center, from)?;
+    let phi = profile_arcs::formula::turn(a, from, to)?;
+    let turn = fabs(phi);
+    let length = finite(radius * turn)?;
+    Ok(Measure {
+        radius,
+        turn,
+        length,
+    })
 }
 
-pub fn arc_measure(a: ProfileArc, from: Vec2, to: Vec2) -> CheckedMeasure
-    ensures refusal { result.refusal ≡ (arc_c a from to).refusal }
-    ensures value { result.value ≡ (arc_c a from to).value }
+pub fn measure_of(r: PieceCurve) -> Result<Measure, Refusal>
+    ensures { told result ≡ answered (measure_c r) }
 {
-    let c = a.center;
-    let d = distance(c, from);
-    let k = profile_arcs::formula::turn(a, from, to);
-    let turn = fabs(k.value);
-    let length = d.value * turn;
-    CheckedMeasure {
-        refusal: note(earlier(d.refusal, k.refusal), length),
-        value: Measure {
-            radius: d.value,
-            turn: turn,
-            length: length,
-        },
-    }
-}
-
-pub fn measure_of(r: PieceCurve) -> CheckedMeasure
-    ensures refusal { result.refusal ≡ (measure_c r).refusal }
-    ensures value { result.value ≡ (measure_c r).value }
-{
-    let w = r.way;
-    match w {
+    match r.way {
         CurveKind::Straight => segment(r.from, r.to),
         CurveKind::Arc(a) => arc_measure(a, r.from, r.to),
-        CurveKind::Wave(v) => wave_traced(r.from, r.to, r.neutral, v),
-        CurveKind::Meet(c) => meet_traced(c),
+        CurveKind::Wave(w) => traced(|k| wave_place(w, r.from, r.to, r.neutral, k)),
+        CurveKind::Meet(c) => traced(|k| meet_place(c, k)),
     }
 }

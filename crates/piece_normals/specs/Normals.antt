@@ -1,5 +1,5 @@
 -- `Rolled::normal`: the unit normal of the wall over a piece, left of the piece's direction.
-use Rattle.std.specs.Prelude.{cond, Float}
+use Rattle.std.specs.Prelude.{cond, Float, Some, None, Option}
 use Rattle.checked.specs.Checked.{Checked, ◌>>=◌, given, num, ◌⊖◌, ◌⊗◌, ◌⊘◌}
 use Rattle.directions.specs.Directions.{unit_c}
 use Rattle.vectors.specs.declared.Vec2.{Vec2}
@@ -16,10 +16,6 @@ use Rattle.traces.specs.declared.Trace.{Trace}
 use Rattle.traces.specs.declared.Trace.TheVariants as trace
 use Rattle.piece_curves.specs.MeetCurves.{meet_curve_of, slope_u_c, slope_v_c}
 use Rattle.developments.specs.Formulas.{radial_at_c, along_c}
-use Rattle.piece_curves.specs.declared.PieceArc.{PieceArc}
-use Rattle.piece_curves.specs.declared.PieceArc.TheVariants as arc_variants
-use Rattle.piece_curves.specs.declared.PieceTrace.{PieceTrace}
-use Rattle.piece_curves.specs.declared.PieceTrace.TheVariants as trace_variants
 use Rattle.piece_normals.specs.Directions.{gradient_c, facing, side_c}
 
 -- ---- the direction of a piece at p
@@ -85,14 +81,14 @@ traced_c (trace.Wave w) from to n p = wave_c w from to n p
 traced_c (trace.Meet m) from to n p = meet_c m from to n p
 
 -- without an arc: along the trace, or straight on
-unfoldable pub without_arc_c : PieceTrace → Vec2 → Vec2 → Float → Vec2 → Checked Vec2
-without_arc_c (trace_variants.With t) from to n p = traced_c t from to n p
-without_arc_c trace_variants.Without from to n p = straight_c from to
+unfoldable pub without_arc_c : Option Trace → Vec2 → Vec2 → Float → Vec2 → Checked Vec2
+without_arc_c (Some t) from to n p = traced_c t from to n p
+without_arc_c None from to n p = straight_c from to
 
 -- an arc goes first, as in the Rust; a piece with both is refused where it is handed in
-unfoldable pub direction_c : PieceArc → PieceTrace → Vec2 → Vec2 → Float → Vec2 → Checked Vec2
-direction_c (arc_variants.With a) trace' from to n p = arc_c a p
-direction_c arc_variants.Without trace' from to n p = without_arc_c trace' from to n p
+unfoldable pub direction_c : Option ProfileArc → Option Trace → Vec2 → Vec2 → Float → Vec2 → Checked Vec2
+direction_c (Some a) trace' from to n p = arc_c a p
+direction_c None trace' from to n p = without_arc_c trace' from to n p
 
 -- ---- at r from the axis, where the piece has the direction d
 unfoldable pub normal_c : Vec3 → Vec3 → Float → Vec2 → Vec2 → Float → Checked Vec3

@@ -2,7 +2,7 @@
 use Rattle.std.specs.Prelude.{ℕ, Bool, not, ◌&&◌, Float}
 use Rattle.std.specs.Float.Ieee.{lt}
 use Rattle.checked.specs.Refusals.{OUT_OF_RANGE, ARC_AND_TRACE, BAD_TOLERANCE}
-use Rattle.checked.specs.Checked.{◌>>=◌, within, Due, due, refused, answered}
+use Rattle.checked.specs.Checked.{◌>>=◌, within, Due, due, answered}
 use Rattle.checked.specs.Numbers.{zero}
 use Rattle.checked.specs.Tests.{fails, ◌or◌, passing, neutral_test, chord_test}
 use Rattle.vectors.specs.declared.Vec2.{Vec2}
@@ -19,44 +19,7 @@ use Rattle.piece_boxes.specs.CurveBoxes.{box_c}
 use Rattle.piece_lengths.specs.Counts.{quadrature_c, chords_c, polyline_c}
 use Rattle.pieces.specs.Tests.{arc_within, followed_within, both}
 use Rattle.pieces.specs.declared.Rolled.{Rolled}
-use Rattle.pieces.specs.declared.PlaceAnswer.{PlaceAnswer}
-use Rattle.pieces.specs.declared.PlaceAnswer.TheVariants as rolled_point
-use Rattle.pieces.specs.declared.SecondAnswer.{SecondAnswer}
-use Rattle.pieces.specs.declared.SecondAnswer.TheVariants as rolled_second
-use Rattle.pieces.specs.declared.RolledAnswer.{RolledAnswer}
-use Rattle.pieces.specs.declared.RolledAnswer.TheVariants as rolled_piece
-use Rattle.pieces.specs.declared.MeasureAnswer.{MeasureAnswer}
-use Rattle.pieces.specs.declared.MeasureAnswer.TheVariants as rolled_measure
-use Rattle.pieces.specs.declared.CountAnswer.{CountAnswer}
-use Rattle.pieces.specs.declared.CountAnswer.TheVariants as rolled_count
-use Rattle.pieces.specs.declared.FlatBoxAnswer.{FlatBoxAnswer}
-use Rattle.pieces.specs.declared.FlatBoxAnswer.TheVariants as rolled_box
 use Rattle.pieces.specs.Pieces.{run_c, back, normal_c}
-
--- ---- what the code's answers say
-abbrev pub place_due : PlaceAnswer → Due Place
-place_due (rolled_point.Value v) = due v
-place_due (rolled_point.Refused n) = refused n
-
-abbrev pub flat_due : SecondAnswer → Due Vec2
-flat_due (rolled_second.Value v) = due v
-flat_due (rolled_second.Refused n) = refused n
-
-abbrev pub piece_due : RolledAnswer → Due Rolled
-piece_due (rolled_piece.Value v) = due v
-piece_due (rolled_piece.Refused n) = refused n
-
-abbrev pub measured_due : MeasureAnswer → Due Measure
-measured_due (rolled_measure.Value v) = due v
-measured_due (rolled_measure.Refused n) = refused n
-
-abbrev pub count_due : CountAnswer → Due ℕ
-count_due (rolled_count.Value v) = due v
-count_due (rolled_count.Refused n) = refused n
-
-abbrev pub box_due : FlatBoxAnswer → Due FlatBox
-box_due (rolled_box.Value v) = due v
-box_due (rolled_box.Refused n) = refused n
 
 -- ---- what is tried
 -- all numbers of a piece are within the limit, those of an arc and of a trace too, read or not

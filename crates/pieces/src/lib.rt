@@ -2,26 +2,23 @@
 #![tactic(auto)]
 
 ghost use Rattle.std.specs.Prelude.{◌≡◌};
-ghost use Rattle.checked.specs.Checked.{first, settled};
-ghost use Rattle.pieces.specs.Entries.{place_due, flat_due, piece_due, measured_due, count_due, box_due, piece_within, tests, at_due, second_due, reversed_due, measure_due, quadrature_due, chords_due, polyline_due, uv_box_due, normal_due};
+ghost use Rattle.checked.specs.Told.{told, failed};
+ghost use Rattle.pieces.specs.Entries.{piece_within, tests, at_due, second_due, reversed_due, measure_due, quadrature_due, chords_due, polyline_due, uv_box_due, normal_due};
 ghost use Rattle.developments.specs.Developments.{development_within};
-ghost use Rattle.vectors.specs.Entries.{vector_due};
 
+use crate::formula::run;
 use crate::parts::{are_both, is_arc_within, is_trace_within};
-use checked::{
-    ARC_AND_TRACE, BAD_TOLERANCE, OUT_OF_RANGE, earlier, fails, is_within, tried_chord,
-    tried_neutral,
-};
-use chord_counts::counts::CheckedCount;
+use checked::{Refusal, is_within, require, require_chord, require_neutral};
 use developments::Development;
-use piece_boxes::brackets::{CheckedBox, FlatBox};
+use piece_boxes::brackets::FlatBox;
 use piece_boxes::curve_boxes::uv_box;
-use piece_curves::meet_curves::{CheckedPlace, CheckedVec2, Place};
-use piece_curves::{PieceArc, PieceTrace};
+use piece_curves::meet_curves::Place;
 use piece_lengths::counts::{chords_of, polyline_of, quadrature_pieces};
-use piece_lengths::measures::{CheckedMeasure, Measure};
+use piece_lengths::measures::Measure;
 use piece_lengths::second_derivatives::second;
-use vectors::{Vec2, VectorAnswer, is_within2};
+use profile_arcs::ProfileArc;
+use traces::Trace;
+use vectors::{Vec2, Vec3, is_within2};
 
 pub mod formula;
 pub mod parts;
@@ -32,111 +29,8 @@ pub struct Rolled {
     pub dev: Development,
     pub from: Vec2,
     pub to: Vec2,
-    pub arc: PieceArc,
-    pub trace: PieceTrace,
-}
-
-// The answer of `at`: the point and its derivative.
-#[derive(Clone, Copy)]
-pub enum PlaceAnswer {
-    Value(Place),
-    Refused(u8),
-}
-
-// The answer of `second`.
-#[derive(Clone, Copy)]
-pub enum SecondAnswer {
-    Value(Vec2),
-    Refused(u8),
-}
-
-// The answer of `reversed`.
-#[derive(Clone, Copy)]
-pub enum RolledAnswer {
-    Value(Rolled),
-    Refused(u8),
-}
-
-// The answer of `measure`.
-#[derive(Clone, Copy)]
-pub enum MeasureAnswer {
-    Value(Measure),
-    Refused(u8),
-}
-
-// The answer of `quadrature_pieces`, `chords` and `polyline`.
-#[derive(Clone, Copy)]
-pub enum CountAnswer {
-    Value(u16),
-    Refused(u8),
-}
-
-// The answer of `uv_box`.
-#[derive(Clone, Copy)]
-pub enum FlatBoxAnswer {
-    Value(FlatBox),
-    Refused(u8),
-}
-
-// ---- the value, or the refusal met first, where there is one
-fn settle_place(c: CheckedPlace) -> PlaceAnswer
-    ensures { place_due result ≡ settled c.refusal c.value }
-{
-    let n = c.refusal;
-    let v = c.value;
-    if n == 0 {
-        PlaceAnswer::Value(v)
-    } else {
-        PlaceAnswer::Refused(n)
-    }
-}
-
-fn settle_measure(c: CheckedMeasure) -> MeasureAnswer
-    ensures { measured_due result ≡ settled c.refusal c.value }
-{
-    let n = c.refusal;
-    let v = c.value;
-    if n == 0 {
-        MeasureAnswer::Value(v)
-    } else {
-        MeasureAnswer::Refused(n)
-    }
-}
-
-// ---- and of a computation on a run, which may have met the refusal r before
-fn settle_second(r: u8, c: CheckedVec2) -> SecondAnswer
-    ensures { flat_due result ≡ settled (first r c.refusal) c.value }
-{
-    let n = earlier(r, c.refusal);
-    let v = c.value;
-    if n == 0 {
-        SecondAnswer::Value(v)
-    } else {
-        SecondAnswer::Refused(n)
-    }
-}
-
-fn settle_count(r: u8, c: CheckedCount) -> CountAnswer
-    ensures { count_due result ≡ settled (first r c.refusal) c.value }
-{
-    let n = earlier(r, c.refusal);
-    if n == 0 {
-        CountAnswer::Value(c.value)
-    } else {
-        CountAnswer::Refused(n)
-    }
-}
-
-fn settle_box(r: u8, c: CheckedBox) -> FlatBoxAnswer
-    ensures { box_due result ≡ settled (first r c.refusal) c.value }
-{
-    let n = earlier(r, c.refusal);
-    let v = c.value;
-    if n == 0 {
-        FlatBoxAnswer::Value(v)
-    } else {
-        FlatBoxAnswer::Refused(n)
-    }
+    pub arc: Option<ProfileArc>,
+    pub trace: Option<Trace>,
 }
 
 // All numbers of a development pass the test of what is handed in. They are tried two by two as they
@@ -156,150 +50,98 @@ impl Rolled {
     pub fn is_within_limit(self) -> bool
         ensures { result ≡ piece_within self }
     {
-        let d = self.dev;
-        let f = self.from;
-        let g = self.to;
-        let a = self.arc;
-        let t = self.trace;
-        is_development_within(d)
-            & (is_within2(f) & (is_within2(g) & (is_arc_within(a) & is_trace_within(t))))
+        is_development_within(self.dev)
+            & (is_within2(self.from)
+                & (is_within2(self.to) & (is_arc_within(self.arc) & is_trace_within(self.trace))))
     }
 
-    // The number of the test that the piece fails first, 0 for none.
-    pub fn tried(self) -> u8
-        ensures { result ≡ tests self }
+    // The refusal of the test that the piece fails first, where it fails one.
+    pub fn tried(self) -> Result<(), Refusal>
+        ensures { failed result ≡ tests self }
     {
-        let a = self.arc;
-        let t = self.trace;
-        let n = fails(OUT_OF_RANGE, self.is_within_limit());
-        let n = earlier(n, tried_neutral(self.dev.neutral));
-        earlier(n, fails(ARC_AND_TRACE, !are_both(a, t)))
+        require(self.is_within_limit(), Refusal::OutOfRange)?;
+        require_neutral(self.dev.neutral)?;
+        require(!are_both(self.arc, self.trace), Refusal::ArcAndTrace)
     }
 
     // The point at t, from 0 at `from` to 1 at `to`, and its derivative in t.
-    pub fn at(self, t: f64) -> PlaceAnswer
-        ensures { place_due result ≡ at_due self t }
+    pub fn at(self, t: f64) -> Result<Place, Refusal>
+        ensures { told result ≡ at_due self t }
     {
-        let n = fails(OUT_OF_RANGE, is_within(t));
-        let n = earlier(n, self.tried());
-        if n == 0 {
-            settle_place(formula::at(self, t))
-        } else {
-            PlaceAnswer::Refused(n)
-        }
+        require(is_within(t), Refusal::OutOfRange)?;
+        self.tried()?;
+        formula::at(self, t)
     }
 
     // The second derivative in t of `at`.
-    pub fn second(self, t: f64) -> SecondAnswer
-        ensures { flat_due result ≡ second_due self t }
+    pub fn second(self, t: f64) -> Result<Vec2, Refusal>
+        ensures { told result ≡ second_due self t }
     {
-        let n = fails(OUT_OF_RANGE, is_within(t));
-        let n = earlier(n, self.tried());
-        if n == 0 {
-            let x = formula::run(self);
-            let r = x.value;
-            settle_second(x.refusal, second(r, t))
-        } else {
-            SecondAnswer::Refused(n)
-        }
+        require(is_within(t), Refusal::OutOfRange)?;
+        self.tried()?;
+        second(run(self)?, t)
     }
 
     // The same piece run the other way.
-    pub fn reversed(self) -> RolledAnswer
-        ensures { piece_due result ≡ reversed_due self }
+    pub fn reversed(self) -> Result<Rolled, Refusal>
+        ensures { told result ≡ reversed_due self }
     {
-        let n = self.tried();
-        if n == 0 {
-            RolledAnswer::Value(formula::reversed(self))
-        } else {
-            RolledAnswer::Refused(n)
-        }
+        self.tried()?;
+        Ok(formula::reversed(self))
     }
 
     // The radius of the arc (0 for others), the angle that the piece turns and its length.
-    pub fn measure(self) -> MeasureAnswer
-        ensures { measured_due result ≡ measure_due self }
+    pub fn measure(self) -> Result<Measure, Refusal>
+        ensures { told result ≡ measure_due self }
     {
-        let n = self.tried();
-        if n == 0 {
-            settle_measure(formula::measure(self))
-        } else {
-            MeasureAnswer::Refused(n)
-        }
+        self.tried()?;
+        formula::measure(self)
     }
 
     // Pieces to integrate over: at most 45° each, in the development and about the axis.
-    pub fn quadrature_pieces(self) -> CountAnswer
-        ensures { count_due result ≡ quadrature_due self }
+    pub fn quadrature_pieces(self) -> Result<u16, Refusal>
+        ensures { told result ≡ quadrature_due self }
     {
-        let n = self.tried();
-        if n == 0 {
-            let x = formula::run(self);
-            let r = x.value;
-            settle_count(x.refusal, quadrature_pieces(r))
-        } else {
-            CountAnswer::Refused(n)
-        }
+        self.tried()?;
+        quadrature_pieces(run(self)?)
     }
 
     // Chords for drawing the piece at `radius` from the axis, each at most `chord` off.
-    pub fn chords(self, radius: f64, chord: f64) -> CountAnswer
-        ensures { count_due result ≡ chords_due self radius chord }
+    pub fn chords(self, radius: f64, chord: f64) -> Result<u16, Refusal>
+        ensures { told result ≡ chords_due self radius chord }
     {
-        let n = fails(OUT_OF_RANGE, is_within(radius) & is_within(chord));
-        let n = earlier(n, self.tried());
-        let n = earlier(n, tried_chord(chord));
-        if n == 0 {
-            let x = formula::run(self);
-            let r = x.value;
-            settle_count(x.refusal, chords_of(r, radius, chord))
-        } else {
-            CountAnswer::Refused(n)
-        }
+        require(is_within(radius) & is_within(chord), Refusal::OutOfRange)?;
+        self.tried()?;
+        require_chord(chord)?;
+        chords_of(run(self)?, radius, chord)
     }
 
     // Chords of a polyline through the piece in its development, each at most `deviation` off it: 1
     // without a trace, at least 2 with one.
-    pub fn polyline(self, deviation: f64) -> CountAnswer
-        ensures { count_due result ≡ polyline_due self deviation }
+    pub fn polyline(self, deviation: f64) -> Result<u16, Refusal>
+        ensures { told result ≡ polyline_due self deviation }
     {
-        let n = fails(OUT_OF_RANGE, is_within(deviation));
-        let n = earlier(n, self.tried());
-        let n = earlier(n, fails(BAD_TOLERANCE, 0.0 < deviation));
-        if n == 0 {
-            let x = formula::run(self);
-            let r = x.value;
-            settle_count(x.refusal, polyline_of(r, deviation))
-        } else {
-            CountAnswer::Refused(n)
-        }
+        require(is_within(deviation), Refusal::OutOfRange)?;
+        self.tried()?;
+        require(0.0 < deviation, Refusal::BadTolerance)?;
+        polyline_of(run(self)?, deviation)
     }
 
     // The least and greatest u and v; of an arc those of the whole circle.
-    pub fn uv_box(self) -> FlatBoxAnswer
-        ensures { box_due result ≡ uv_box_due self }
+    pub fn uv_box(self) -> Result<FlatBox, Refusal>
+        ensures { told result ≡ uv_box_due self }
     {
-        let n = self.tried();
-        if n == 0 {
-            let x = formula::run(self);
-            let r = x.value;
-            settle_box(x.refusal, uv_box(r))
-        } else {
-            FlatBoxAnswer::Refused(n)
-        }
+        self.tried()?;
+        uv_box(run(self)?)
     }
 
     // The unit normal at q of the wall over the piece, r from the axis: left of the piece's
     // direction.
-    pub fn normal(self, q: Vec2, r: f64) -> VectorAnswer
-        ensures { vector_due result ≡ normal_due self q r }
+    pub fn normal(self, q: Vec2, r: f64) -> Result<Vec3, Refusal>
+        ensures { told result ≡ normal_due self q r }
     {
-        let n = fails(OUT_OF_RANGE, is_within2(q) & is_within(r));
-        let n = earlier(n, self.tried());
-        if n == 0 {
-            vectors::settle(formula::normal(self, q, r))
-        } else {
-            VectorAnswer::Refused(n)
-        }
+        require(is_within2(q) & is_within(r), Refusal::OutOfRange)?;
+        self.tried()?;
+        formula::normal(self, q, r)
     }
 }

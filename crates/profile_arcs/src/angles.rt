@@ -1,22 +1,21 @@
 // Angles turned about a centre, for numbers of any size. A turn that is not finite is for the
-// caller to note.
+// caller to try.
 ghost use Rattle.std.specs.Prelude.{◌≡◌};
+ghost use Rattle.checked.specs.Checked.{answered};
+ghost use Rattle.checked.specs.Told.{told};
 ghost use Rattle.profile_arcs.specs.Angles.{angle_c, ahead_c, back_c};
 
-use checked::{CheckedNumber, TAU, note};
+use checked::{Refusal, TAU, finite};
 use libm::atan2::atan2;
 
-// The angle of the direction (x, y), in [-π, π]. The two numbers are noted, and so is what they
+// The angle of the direction (x, y), in [-π, π]. The two numbers are tried, and so is what they
 // give.
-pub fn angle(y: f64, x: f64) -> CheckedNumber
-    ensures refusal { result.refusal ≡ (angle_c y x).refusal }
-    ensures value { result.value ≡ (angle_c y x).value }
+pub fn angle(y: f64, x: f64) -> Result<f64, Refusal>
+    ensures { told result ≡ answered (angle_c y x) }
 {
-    let t = atan2(y, x);
-    CheckedNumber {
-        refusal: note(note(note(0, y), x), t),
-        value: t,
-    }
+    finite(y)?;
+    finite(x)?;
+    finite(atan2(y, x))
 }
 
 // A turn counterclockwise, in (0, 2π].

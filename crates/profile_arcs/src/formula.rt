@@ -1,11 +1,13 @@
 // The formulas on numbers of any size.
 ghost use Rattle.std.specs.Prelude.{◌≡◌, cond};
+ghost use Rattle.checked.specs.Checked.{answered};
+ghost use Rattle.checked.specs.Told.{told};
 ghost use Rattle.profile_arcs.specs.Angles.{ahead_c, back_c};
 ghost use Rattle.profile_arcs.specs.Profiles.{apart_c, turn_c};
 
 use crate::ProfileArc;
 use crate::angles::{ahead, angle, back};
-use checked::{CheckedNumber, note};
+use checked::{Refusal, finite};
 use vectors::Vec2;
 
 // b - a
@@ -25,19 +27,14 @@ fn turned(ccw: bool, t: f64) -> f64
     if ccw { ahead(t) } else { back(t) }
 }
 
-pub fn turn(arc: ProfileArc, a: Vec2, b: Vec2) -> CheckedNumber
-    ensures refusal { result.refusal ≡ (turn_c arc a b).refusal }
-    ensures value { result.value ≡ (turn_c arc a b).value }
+pub fn turn(arc: ProfileArc, a: Vec2, b: Vec2) -> Result<f64, Refusal>
+    ensures { told result ≡ answered (turn_c arc a b) }
 {
     let c = arc.center;
     let u = apart(c, a);
     let v = apart(c, b);
     let y = u.x * v.y - u.y * v.x;
     let x = u.x * v.x + u.y * v.y;
-    let t = angle(y, x);
-    let turn = turned(arc.ccw, t.value);
-    CheckedNumber {
-        refusal: note(t.refusal, turn),
-        value: turn,
-    }
+    let t = angle(y, x)?;
+    finite(turned(arc.ccw, t))
 }

@@ -2,11 +2,11 @@
 #![tactic(auto)]
 
 ghost use Rattle.std.specs.Prelude.{◌≡◌, ◌&&◌};
-ghost use Rattle.checked.specs.Checked.{number_due};
+ghost use Rattle.checked.specs.Told.{told};
 ghost use Rattle.vectors.specs.Vectors.{within2};
 ghost use Rattle.profile_arcs.specs.Profiles.{turn_due};
 
-use checked::{NumberAnswer, OUT_OF_RANGE, fails, settle};
+use checked::{Refusal, require};
 use vectors::{Vec2, is_within2};
 
 pub mod angles;
@@ -28,14 +28,10 @@ impl ProfileArc {
     }
 
     // The angle turned about the centre from a to b; one point twice is a full circle.
-    pub fn turn(self, a: Vec2, b: Vec2) -> NumberAnswer
-        ensures { number_due result ≡ turn_due self a b }
+    pub fn turn(self, a: Vec2, b: Vec2) -> Result<f64, Refusal>
+        ensures { told result ≡ turn_due self a b }
     {
-        let t = fails(OUT_OF_RANGE, self.is_handed(a, b));
-        if t == 0 {
-            settle(formula::turn(self, a, b))
-        } else {
-            NumberAnswer::Refused(t)
-        }
+        require(self.is_handed(a, b), Refusal::OutOfRange)?;
+        formula::turn(self, a, b)
     }
 }

@@ -3,7 +3,7 @@
 #![tactic(auto)]
 
 use std::fs::File;
-use std::num::{wrapping_add_u32, wrapping_add_u64};
+use std::num::wrapping_add_u64;
 use std::os::unix::fs::FileExt;
 use std::{fs, io};
 
@@ -30,10 +30,9 @@ struct Tally {
 }
 
 // What stands after a line: where the next one begins, the line's number, its operation, the tally of that and of all.
-#[derive(Clone, Copy)]
+#[derive(Drop)]
 struct Progress {
-    is_over: bool,
-    at: u32,
+    at: u64,
     line: u64,
     operation: u64,
     here: Tally,
@@ -49,161 +48,108 @@ const NONE: Tally = Tally {
 };
 
 impl Tally {
-    fn with(self, is_alike: bool) -> Tally {
+    fn count(&mut self, is_alike: bool) {
         if is_alike {
-            Tally {
-                alike: wrapping_add_u64(self.alike, 1),
-                different: self.different,
-            }
+            self.alike = wrapping_add_u64(self.alike, 1);
         } else {
-            Tally {
-                alike: self.alike,
-                different: wrapping_add_u64(self.different, 1),
-            }
+            self.different = wrapping_add_u64(self.different, 1);
         }
     }
 
-    fn print(self, rt: &impl Print) -> io::Result<()> {
+    fn print(&self, rt: &impl Print) -> io::Result<()> {
         println!(rt; " {} alike, {} different", self.alike, self.different)
     }
 }
 
 impl Progress {
     // The line of an operation, where there is one.
-    fn print(self, rt: &impl Print) -> io::Result<()> {
-        let here = self.here;
+    fn print(&self, rt: &impl Print) -> io::Result<()> {
         if self.operation > 0 {
-            names::print(rt, self.operation)?;
-            here.print(rt)?;
+            print!(rt; "{}", names::of(self.operation))?;
+            self.here.print(rt)?;
         }
         Ok(())
     }
 
     // On to a line's operation: the one before is printed where that was another.
-    fn turned(self, rt: &impl Print, operation: u64) -> io::Result<Progress> {
-        let all = self.all;
-        if operation == self.operation {
-            Ok(self)
-        } else {
+    fn turn(&mut self, rt: &impl Print, operation: u64) -> io::Result<()> {
+        if operation != self.operation {
             self.print(rt)?;
-            Ok(Progress {
-                is_over: false,
-                at: self.at,
-                line: self.line,
-                operation,
-                here: NONE,
-                all,
-            })
+            self.operation = operation;
+            self.here = NONE;
         }
+        Ok(())
     }
 
-    // With a line that is alike or not.
-    fn with(self, is_alike: bool) -> Progress {
-        let here = self.here;
-        let all = self.all;
-        Progress {
-            is_over: false,
-            at: self.at,
-            line: self.line,
-            operation: self.operation,
-            here: here.with(is_alike),
-            all: all.with(is_alike),
-        }
-    }
-
-    // Past a line of so many bytes.
-    fn past(self, bytes: u32) -> Progress {
-        let here = self.here;
-        let all = self.all;
-        Progress {
-            is_over: false,
-            at: wrapping_add_u32(self.at, bytes),
-            line: wrapping_add_u64(self.line, 1),
-            operation: self.operation,
-            here,
-            all,
-        }
-    }
-
-    fn ended(self) -> Progress {
-        let here = self.here;
-        let all = self.all;
-        Progress {
-            is_over: true,
-            at: self.at,
-            line: self.line,
-            operation: self.operation,
-            here,
-            all,
-        }
+    // Past a line of so many bytes and its newline.
+    fn pass(&mut self, bytes: usize) {
+        self.at = wrapping_add_u64(wrapping_add_u64(self.at, bytes as u64), 1);
+        self.line = wrapping_add_u64(self.line, 1);
     }
 }
 
 // A line that is no call: empty, or a comment.
 fn is_comment(line: &[u8]) -> bool {
-    if line.len() > 0 {
-        line[0] == b'#'
-    } else {
-        true
+    match line.first() {
+        Some(byte) => *byte == b'#',
+        None => true,
     }
 }
 
-fn tried(rt: &impl Print, line: &[u8], number: u64, operation: u64) -> io::Result<bool> {
-    let is_alike = calls::is_alike(operation, line);
-    if !is_alike {
-        println!(rt; "different at line {number}")?;
-    }
-    Ok(is_alike)
-}
-
-fn step(rt: &impl Print, line: &[u8], p: Progress) -> io::Result<Progress> {
+fn step(rt: &impl Print, line: &[u8], p: &mut Progress) -> io::Result<()> {
     if is_comment(line) {
-        return Ok(p);
+        return Ok(());
     }
     let operation = answer_lines::operation(line);
-    let q = p.turned(rt, operation)?;
-    let is_alike = tried(rt, line, q.line, operation)?;
-    Ok(q.with(is_alike))
-}
-
-// The list is over where no byte is left. A line whose newline does not come within the buffer's bytes, or not at all, is told: what
-// follows is not run.
-fn last(rt: &impl Print, left: usize, p: Progress) -> io::Result<Progress> {
-    if left > 0 {
-        let line = wrapping_add_u64(p.line, 1);
-        println!(rt; "no end in 4096 bytes of line {line}")?;
+    p.turn(rt, operation)?;
+    let is_alike = calls::is_alike(operation, line);
+    if !is_alike {
+        println!(rt; "different at line {}", p.line)?;
     }
-    Ok(p.ended())
+    p.here.count(is_alike);
+    p.all.count(is_alike);
+    Ok(())
 }
 
-// One line read and run.
-fn next(rt: &impl Print, file: &File, p: Progress) -> io::Result<Progress> {
+// One line read and run, and whether there was one. A line whose newline does not come within the buffer's bytes, or not at all, is
+// told: what follows is not run.
+fn is_next_run(rt: &impl Print, file: &File, p: &mut Progress) -> io::Result<bool> {
     let mut buf = [0u8; 4096];
-    let n = file.read_at(&mut buf, p.at as u64)?;
+    let n = file.read_at(&mut buf, p.at)?;
     match buf[..n].iter().position(|b| *b == b'\n') {
-        Some(end) => step(rt, &buf[..end], p.past(end as u32 + 1)),
-        None => last(rt, n, p),
+        Some(end) => {
+            p.pass(end);
+            step(rt, &buf[..end], p)?;
+            Ok(true)
+        }
+        None => {
+            if n > 0 {
+                println!(rt;
+                    "no end in 4096 bytes of line {}",
+                    wrapping_add_u64(p.line, 1)
+                )?;
+            }
+            Ok(false)
+        }
     }
 }
 
 fn replay(rt: &impl Print, file: &File) -> io::Result<()> {
     let mut p = Progress {
-        is_over: false,
         at: 0,
         line: 0,
         operation: 0,
         here: NONE,
         all: NONE,
     };
-    let mut turns = MOST;
-    while turns > 0 && !p.is_over {
-        p = next(rt, file, p)?;
-        turns -= 1;
+    for _ in 0..MOST {
+        if !is_next_run(rt, file, &mut p)? {
+            break;
+        }
     }
     p.print(rt)?;
-    let all = p.all;
     print!(rt; "all")?;
-    all.print(rt)
+    p.all.print(rt)
 }
 
 fn main(rt: HostRuntime) -> io::Result<()> {

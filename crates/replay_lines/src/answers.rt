@@ -19,12 +19,10 @@ const NONE: u32 = 255;
 
 // How a line has an answer: these two have two digits there.
 fn listed(answer: u32) -> u64 {
-    if answer == NONE {
-        99
-    } else if answer == UNKNOWN_TAG {
-        98
-    } else {
-        answer as u64
+    match answer {
+        NONE => 99,
+        UNKNOWN_TAG => 98,
+        refusal => refusal as u64,
     }
 }
 
@@ -45,29 +43,21 @@ fn is_number(line: &[u8], k: usize, n: usize, sparse: bool, i: usize, x: f64) ->
 }
 
 pub fn are_numbers(line: &[u8], k: usize, n: usize, sparse: bool, out: &[f64]) -> bool {
-    let mut is_same = true;
-    let mut i = 0;
-    while i < out.len() {
-        is_same = is_same & is_number(line, k, n, sparse, i, out[i]);
-        i += 1;
-    }
-    is_same
+    out.iter()
+        .enumerate()
+        .all(|(i, x)| is_number(line, k, n, sparse, i, *x))
 }
 
 // The numbers are the inputs of the line from pattern k on, a NaN for any other.
 fn are_inputs(line: &[u8], k: usize, out: &[f64]) -> bool {
-    let mut is_same = true;
-    let mut i = 0;
-    while i < out.len() {
+    out.iter().enumerate().all(|(i, x)| {
         let old = number(line, wrapping_add_usize(k, i));
-        is_same = is_same & (checked::bits(old) == checked::bits(out[i]));
-        i += 1;
-    }
-    is_same
+        checked::bits(old) == checked::bits(*x)
+    })
 }
 
 // ---- answers after so many inputs
-fn is_answer(line: &[u8], inputs: u8, answer: u32, out: &[f64]) -> bool {
+pub fn is_answer(line: &[u8], inputs: u8, answer: u32, out: &[f64]) -> bool {
     let first = inputs as usize;
     let n = out.len();
     if answer == 0 {
@@ -77,8 +67,8 @@ fn is_answer(line: &[u8], inputs: u8, answer: u32, out: &[f64]) -> bool {
     }
 }
 
-// A record, with so many patterns more after its numbers.
-fn is_record(line: &[u8], inputs: u8, more: u8, answer: u32, out: &[f64]) -> bool {
+// A piece, a surface or a curve, with so many patterns more after its numbers.
+pub fn is_record(line: &[u8], inputs: u8, more: u8, answer: u32, out: &[f64]) -> bool {
     let first = inputs as usize;
     let n = out.len();
     let all = wrapping_add_usize(wrapping_add_usize(first, n), more as usize);
@@ -89,8 +79,8 @@ fn is_record(line: &[u8], inputs: u8, more: u8, answer: u32, out: &[f64]) -> boo
     }
 }
 
-// The numbers at `place` of the line, changed.
-fn is_change(line: &[u8], inputs: u8, place: u8, answer: u32, out: &[f64]) -> bool {
+// The numbers at `place` of the line, a box or sums, changed.
+pub fn is_change(line: &[u8], inputs: u8, place: u8, answer: u32, out: &[f64]) -> bool {
     let first = inputs as usize;
     let n = out.len();
     if answer == 0 {
@@ -102,7 +92,7 @@ fn is_change(line: &[u8], inputs: u8, place: u8, answer: u32, out: &[f64]) -> bo
 
 // A number that is never refused.
 pub fn is_value(line: &[u8], inputs: u8, x: f64) -> bool {
-    is_1(line, inputs, 0, &[x])
+    is_answer(line, inputs, 0, &[x])
 }
 
 pub fn is_count(line: &[u8], inputs: u8, answer: u32, out: &[u64; 1]) -> bool {
@@ -130,65 +120,4 @@ pub fn are_tags(line: &[u8], k: u8, answer: u32, tags: &[u32; 2]) -> bool {
     } else {
         (tags[0] == HELD_TAG) & (tags[1] == HELD_TAG)
     }
-}
-
-// ---- answers of so many numbers
-pub fn is_1(line: &[u8], inputs: u8, answer: u32, out: &[f64; 1]) -> bool {
-    is_answer(line, inputs, answer, out)
-}
-
-pub fn is_2(line: &[u8], inputs: u8, answer: u32, out: &[f64; 2]) -> bool {
-    is_answer(line, inputs, answer, out)
-}
-
-pub fn is_3(line: &[u8], inputs: u8, answer: u32, out: &[f64; 3]) -> bool {
-    is_answer(line, inputs, answer, out)
-}
-
-pub fn is_4(line: &[u8], inputs: u8, answer: u32, out: &[f64; 4]) -> bool {
-    is_answer(line, inputs, answer, out)
-}
-
-pub fn is_6(line: &[u8], inputs: u8, answer: u32, out: &[f64; 6]) -> bool {
-    is_answer(line, inputs, answer, out)
-}
-
-pub fn is_7(line: &[u8], inputs: u8, answer: u32, out: &[f64; 7]) -> bool {
-    is_answer(line, inputs, answer, out)
-}
-
-pub fn is_8(line: &[u8], inputs: u8, answer: u32, out: &[f64; 8]) -> bool {
-    is_answer(line, inputs, answer, out)
-}
-
-pub fn is_9(line: &[u8], inputs: u8, answer: u32, out: &[f64; 9]) -> bool {
-    is_answer(line, inputs, answer, out)
-}
-
-pub fn is_10(line: &[u8], inputs: u8, answer: u32, out: &[f64; 10]) -> bool {
-    is_answer(line, inputs, answer, out)
-}
-
-pub fn is_12(line: &[u8], inputs: u8, answer: u32, out: &[f64; 12]) -> bool {
-    is_answer(line, inputs, answer, out)
-}
-
-// A piece or a surface.
-pub fn is_26(line: &[u8], inputs: u8, more: u8, answer: u32, out: &[f64; 26]) -> bool {
-    is_record(line, inputs, more, answer, out)
-}
-
-// A curve.
-pub fn is_27(line: &[u8], inputs: u8, more: u8, answer: u32, out: &[f64; 27]) -> bool {
-    is_record(line, inputs, more, answer, out)
-}
-
-// A box that was widened.
-pub fn is_box(line: &[u8], inputs: u8, place: u8, answer: u32, out: &[f64; 6]) -> bool {
-    is_change(line, inputs, place, answer, out)
-}
-
-// Sums that were added to.
-pub fn is_sums(line: &[u8], inputs: u8, place: u8, answer: u32, out: &[f64; 8]) -> bool {
-    is_change(line, inputs, place, answer, out)
 }

@@ -1,20 +1,25 @@
 -- Laws of items one after the other, and of rows that take them. Assumes nothing.
-use Prim.Native.Nat.{ℕ, zero, suc, ◌+◌, ◌*◌, ◌≤◌, ◌<◌}
-use Rattle.std.specs.Prelude.{◌≡◌, Bool, true, false, take, drop, set, get_or, Float, leb}
+use Prim.Native.Nat.{ℕ, zero, suc, ◌+◌, ◌-◌, ◌*◌, ◌≤◌, ◌<◌}
+use Rattle.std.specs.Prelude.{◌≡◌, take, drop, set, leb, Float, Result}
+use Rattle.std.specs.Borrow.{MutBor}
+use Rattle.std.specs.Result.{IsErr, IsErrAnd}
+use Rattle.std.proofs.lemmas.Result.{err_from_is_err_and}
 use Rattle.std.proofs.Math.Path.{refl, sym, ap}
-use Rattle.std.proofs.Common.{◌∙◌, ap₂, subst, arith, add-one, mul-suc, mul-zero, length-drop, drop-drop, take_at, drop_at, drop-cons, take-suc, length-take-le, le-leb}
+use Rattle.std.proofs.Common.{◌∙◌, ap₂, arith, add-one, add-zero, add-suc, mul-suc, mul-zero, length-drop, drop-drop, take_at, drop_at}
 use mathlib.Core.List.{List, [], ◌∷◌, ◌++◌, append_assoc, append-nil}
 use Rattle.std.proofs.Math.ListN.{length, length-append}
-use Rattle.std.proofs.lemmas.List.{set_at}
 use Rattle.std.proofs.lemmas.List.Edits.{sets, sets-eq}
 use Rattle.checked.specs.Refusals.{ROW_TOO_SHORT}
-use Rattle.checked.specs.Checked.{Checked, first, Due, due, refused, settled}
+use Rattle.checked.specs.Checked.{Checked, first, Due, due, refused, answered}
 use Rattle.checked.specs.Answers.{number_of}
-use Rattle.checked.specs.Tests.{fails, passing}
-use Rattle.checked.specs.TestsLaws.{passing_some}
-use Rattle.checked.specs.Laws.{first_zero, settled_some, settled_none, ok}
-use Rattle.std.proofs.lemmas.Bool.{lt-leb}
-use Rattle.rows.specs.Rows.{up_to, Item, flat_items, placed_item, all_refusal, items_due, some_due, part_items, row_after_items, DrawnItems}
+use Rattle.checked.specs.Tests.{fails}
+use Rattle.checked.specs.TestsLaws.{never, passing_none}
+use Rattle.checked.specs.Laws.{first_zero, zero_first, settled_none}
+use Rattle.checked.specs.Told.{number, told}
+use Rattle.checked.specs.ToldLaws.{first_number, settled_number, exit_is}
+use Rattle.checked.specs.declared.Refusal.{Refusal}
+use Rattle.vectors.specs.declared.Vec3.{Vec3}
+use Rattle.rows.specs.Rows.{up_to, Item, flat_items, placed_item, counted, part_items, row_after_items, DrawnItems, point, flat, fits, row_after, Drawn, DrawnPart, Stored}
 
 -- ---- one more
 pub up_to_refusal : {A : Type 0} (f : ℕ → Checked A) (m : ℕ) → (up_to f (m + 1)).refusal ≡ first (up_to f m).refusal (f (m + 1)).refusal
@@ -31,18 +36,25 @@ unfolding up_to
 up_to_same f g h zero = refl
 up_to_same f g h (suc m) = rw (up_to_same f g h m, h (suc m))
 
-same_refusals : {A : Type 0} (f g : ℕ → Checked A) → ((k : ℕ) → (f k).refusal ≡ (g k).refusal) → (m : ℕ) → (up_to f m).refusal ≡ (up_to g m).refusal
+-- one value each
+pub up_to_length : {A : Type 0} (f : ℕ → Checked A) (m : ℕ) → length (up_to f m).value ≡ m
 unfolding up_to
-same_refusals f g h zero = refl
-same_refusals f g h (suc m) = rw (same_refusals f g h m, h (suc m))
+up_to_length f zero = refl
+up_to_length f (suc m) = rw (length-append, up_to_length f m) (add-one m)
 
--- a refusal that every item meets ahead of its own is met by the first of them
-pub up_to_before : {A : Type 0} (s : Bool) (f g : ℕ → Checked A) → ((k : ℕ) → (f k).refusal ≡ first (ok s) (g k).refusal) → (m : ℕ) → (up_to f m).refusal ≡ all_refusal (ok s) g m
-unfolding up_to all_refusal ok first
-up_to_before s f g h zero = refl
-up_to_before true f g h (suc m) = same_refusals f g h (suc m)
-up_to_before false f g h (suc zero) = rw (h 1)
-up_to_before false f g h (suc (suc m)) = rw (up_to_before false f g h (suc m))
+-- the refusal that an item meets first is met by all items up to any later one
+later : {A : Type 0} (f : ℕ → Checked A) (i d : ℕ) (r : Refusal) → (up_to f i).refusal ≡ number r → (up_to f (i + d)).refusal ≡ number r
+later f i zero r h = ap (λ (n : ℕ). (up_to f n).refusal) (add-zero i) ∙ h
+later f i (suc d) r h = ap (λ (n : ℕ). (up_to f n).refusal) (add-suc i d ∙ sym (add-one (i + d))) ∙ (up_to_refusal f (i + d) ∙ rw (later f i d r h) (first_number r _))
+
+pub up_to_refused : {A : Type 0} (f : ℕ → Checked A) (i m : ℕ) (r : Refusal) → i < m → (up_to f i).refusal ≡ 0 → (f (i + 1)).refusal ≡ number r → number r ≡ (up_to f m).refusal
+up_to_refused f i m r l none met =
+    let last : i + 1 + (m - (i + 1)) ≡ m = omega (arith, l) in
+    sym (ap (λ (n : ℕ). (up_to f n).refusal) (sym last) ∙ later f (i + 1) (m - (i + 1)) r (up_to_refusal f i ∙ rw (none, met) (zero_first (number r))))
+
+-- one more meets none
+pub up_to_more : {A : Type 0} (f : ℕ → Checked A) (i : ℕ) → (up_to f i).refusal ≡ 0 → (f (i + 1)).refusal ≡ 0 → (up_to f (i + 1)).refusal ≡ 0
+up_to_more f i none met = up_to_refusal f i ∙ rw (none, met) (zero_first 0)
 
 -- ---- items stored one behind the other
 -- one item more takes its width more
@@ -69,10 +81,13 @@ module _ {A : Type 0} (k : Item A) where
   pub flat_more : (f : ℕ → Checked A) (i : ℕ) → flat_items k (up_to f (i + 1)).value ≡ flat_items k (up_to f i).value ++ k.numbers (f (i + 1)).value
   flat_more f i = rw (up_to_value f i, flat_append (up_to f i).value ((f (i + 1)).value ∷ []), flat_one (f (i + 1)).value)
 
+  pub items_length : (xs : List A) → length (flat_items k xs) ≡ k.width * length xs
+  unfolding flat_items
+  items_length [] = sym (mul-zero k.width)
+  items_length (a ∷ xs) = rw (length-append, items_length xs, k.filled a) (omega (arith, mul-suc k.width (length xs)))
+
   pub flat_length : (f : ℕ → Checked A) (m : ℕ) → length (flat_items k (up_to f m).value) ≡ k.width * m
-  unfolding up_to flat_items
-  flat_length f zero = sym (mul-zero k.width)
-  flat_length f (suc m) = rw (flat_append (up_to f m).value ((f (suc m)).value ∷ []), flat_one (f (suc m)).value, length-append, flat_length f m, k.filled (f (suc m)).value) (sym (mul-suc k.width m))
+  flat_length f m = items_length (up_to f m).value ∙ ap (λ (n : ℕ). k.width * n) (up_to_length f m)
 
   pub flat_part : (f : ℕ → Checked A) (m : ℕ) (rest : List Float) → take (k.width * m) (flat_items k (up_to f m).value ++ rest) ≡ flat_items k (up_to f m).value
   flat_part f m rest = take_at (flat_items k (up_to f m).value) rest (k.width * m) (flat_length f m)
@@ -91,74 +106,66 @@ module _ {A : Type 0} (k : Item A) where
       ∙ (ap₂ (λ (t r : List Float). (t ++ vs) ++ r) (take_at a (drop (w * i) row) (w * i) (flat_length f i)) rest
       ∙ ap (λ (t : List Float). t ++ drop (w * (i + 1)) row) (sym (flat_more f i)))
 
--- ---- one more number copied behind the first i
-pub copied : (buf row : List Float) (i : ℕ) (d : Float) → i < length buf → i < length row → set (take i buf ++ drop i row) i (get_or buf i d) ≡ take (i + 1) buf ++ drop (i + 1) row
-copied buf row i d B R =
-    rw (add-one i, drop-cons row i d R)
-    (set_at (take i buf) (get_or row i d) (drop (suc i) row) (get_or buf i d) i (length-take-le i buf (omega arith))
-    ∙ sym (ap (λ (l : List Float). l ++ drop (suc i) row) (take-suc buf i d B) ∙ append_assoc (take i buf) (get_or buf i d ∷ []) (drop (suc i) row)))
+  -- ---- the written part, by how many items the call answered
+  part_count : (d : Due (List A)) (n : ℕ) → due n ≡ counted d → (number_of d ≡ 0) × (k.width * n ≡ length (part_items k d))
+  part_count (due xs) n h = (refl, ap (λ (i : ℕ). k.width * i) (ap get h) ∙ sym (items_length xs))
+    where
+      get : Due ℕ → ℕ
+      get (due i) = i
+      get (refused i) = n
+  part_count (refused r) n h = absurd (never r n (sym h))
 
--- ---- what is due of m items
-pub all_some : {A : Type 0} (before : ℕ) (f : ℕ → Checked A) (m : ℕ) → (m ≡ 0 → ⊥) → all_refusal before f m ≡ first before (up_to f m).refusal
-unfolding all_refusal
-all_some before f zero h = absurd (h refl)
-all_some before f (suc m) h = refl
-
-module _ {A : Type 0} (k : Item A) (before : ℕ) (f : ℕ → Checked A) (m room : ℕ) where
-  pub due_short : room < k.width * m → items_due k before f m room ≡ refused ROW_TOO_SHORT
-  unfolding items_due fails passing
-  due_short h = simp (lt-leb (k.width * m) room h)
-
-  pub due_some : k.width * m ≤ room → (m ≡ 0 → ⊥) → items_due k before f m room ≡ some_due before f m
-  unfolding items_due fails passing
-  due_some h s = simp (le-leb (k.width * m) room h, all_some before f m s)
-
-pub due_none : {A : Type 0} (k : Item A) (before : ℕ) (f : ℕ → Checked A) (m room : ℕ) → m ≡ 0 → items_due k before f m room ≡ due []
-unfolding items_due all_refusal up_to fails passing
-due_none k before f zero room h = simp (le-leb (k.width * 0) room (omega (arith, mul-zero k.width)), settled_none)
-due_none k before f (suc m) room h = absurd (omega arith)
-
-module _ {A : Type 0} (before : ℕ) (f : ℕ → Checked A) (m : ℕ) where
-  pub some_due_lem : first before (up_to f m).refusal ≡ 0 → some_due before f m ≡ due (up_to f m).value
-  some_due_lem r = simp (r, settled_none)
-
-  pub some_refused : (first before (up_to f m).refusal ≡ 0 → ⊥) → some_due before f m ≡ refused (first before (up_to f m).refusal)
-  some_refused r = settled_some (first before (up_to f m).refusal) (up_to f m).value r
-
--- ---- the written part, by the number
-accepted : {A : Type 0} (fit : Bool) (r : ℕ) (xs : List A) → number_of (passing (fails ROW_TOO_SHORT fit) (settled r xs)) ≡ 0 → passing (fails ROW_TOO_SHORT fit) (settled r xs) ≡ due xs
-unfolding settled fails passing
-accepted true zero xs h = refl
-accepted true (suc r) xs h = absurd (omega arith)
-accepted false r xs h = absurd (omega arith)
-
-module _ {A : Type 0} (k : Item A) where
-  pub part_length : (before : ℕ) (f : ℕ → Checked A) (m room : ℕ) → number_of (items_due k before f m room) ≡ 0 → length (part_items k (items_due k before f m room)) ≡ k.width * m
-  unfolding items_due
-  part_length before f m room h = ap (λ (d : Due (List A)). length (part_items k d)) (accepted (leb (k.width * m) room) (all_refusal before f m) (up_to f m).value h) ∙ flat_length k f m
-
-  pub part_refused : (d : Due (List A)) → (number_of d ≡ 0 → ⊥) → part_items k d ≡ []
-  part_refused (due xs) h = absurd (h refl)
-  part_refused (refused n) h = refl
-
-  -- the part is the start of the row that is left
-  pub part_taken : (d : Due (List A)) (row : List Float) → take (length (part_items k d)) (row_after_items k d row) ≡ part_items k d
+  part_taken : (d : Due (List A)) (row : List Float) → take (length (part_items k d)) (row_after_items k d row) ≡ part_items k d
   part_taken (due xs) row = take_at (flat_items k xs) (drop (length (flat_items k xs)) row) (length (flat_items k xs)) refl
   part_taken (refused n) row = refl
 
-  pub part_fits : (d : Due (List A)) (row : List Float) → length (part_items k d) ≤ length (row_after_items k d row)
-  part_fits (due xs) row = omega (arith, length-append (flat_items k xs) (drop (length (flat_items k xs)) row))
-  part_fits (refused n) row = omega arith
+  module _ (d : Due (List A)) (row left : List Float) (n : ℕ) (drawn : DrawnItems k d row left (due n)) where
+    -- it is the start of the row that is left
+    pub part_written : (number_of d ≡ 0) × (take (k.width * n) left ≡ part_items k d)
+    part_written =
+        let c = part_count d n drawn.count in
+        (c.0, rw (c.1, drawn.rest) (part_taken d row))
 
-  -- no item leaves the row as it was
-  pub none_left : (row : List Float) → row_after_items k (due []) row ≡ row
-  unfolding flat_items
-  none_left row = refl
+    pub part_within : k.width * n ≡ length (take (k.width * n) left)
+    part_within = (part_count d n drawn.count).1 ∙ ap length (sym part_written.1)
 
-  -- a refused call
-  pub drawn_refused : (n : ℕ) (row : List Float) → DrawnItems k (refused n) row row n 0
-  drawn_refused n row = record { number = refl; part = mul-zero k.width; rest = refl }
+  -- a call that a `?` ends
+  pub drawn_stops : (d : Due (List A)) (row : List Float) (answer : Result ℕ Refusal) (r : Refusal) → IsErr answer × IsErrAnd answer (λ e. e ≡ r) → d ≡ refused (number r) → DrawnItems k d row row (told answer)
+  drawn_stops d row answer r exit is = rw is (record { count = exit_is answer r exit; rest = refl })
 
-  -- one that failed a test of what is handed in
-  pub drawn_failed : (r : ℕ) (rest : Due (List A)) (row : List Float) → (r ≡ 0 → ⊥) → DrawnItems k (passing r rest) row row r 0
-  drawn_failed r rest row h = subst (λ (d : Due (List A)). DrawnItems k d row row r 0) (sym (passing_some r rest h)) (record { number = refl; part = mul-zero k.width; rest = refl })
+pub part_stops : (d : Due (List Vec3)) (left : List Float) (row : List Float) (answer : Result (MutBor (List Float)) Refusal) (r : Refusal) → IsErr answer × IsErrAnd answer (λ e. e ≡ r) → Drawn d row left (refused (number r)) → DrawnPart d answer
+part_stops d left row answer r exit drawn =
+    let e = err_from_is_err_and answer exit.1 in
+    rw e.1 (ap (λ (x : Refusal). refused (number x)) e.2 ∙ refused_is d (number r) drawn.count)
+  where
+    refused_is : (d : Due (List Vec3)) (n : ℕ) → refused n ≡ counted d → refused n ≡ d
+    refused_is (due xs) n h = absurd (never n (length xs) (h))
+    refused_is (refused m) n h = ap (λ (i : ℕ). refused i) (ap number_of h)
+
+-- ---- points worked out
+module _ (f : ℕ → Checked Vec3) (m : ℕ) (row : List Float) where
+  refusal_due : (r : Refusal) → number r ≡ (up_to f m).refusal → answered (up_to f m) ≡ refused (number r)
+  refusal_due r met = rw (sym met) (settled_number r (up_to f m).value)
+
+  points_due : (up_to f m).refusal ≡ 0 → answered (up_to f m) ≡ due (up_to f m).value
+  points_due none = rw none (settled_none (up_to f m).value)
+
+  -- none is written where one met a refusal
+  pub stored_not : (r : Refusal) (n : ℕ) → n ≡ number r → number r ≡ (up_to f m).refusal → Stored f m row row n
+  stored_not r n is met = record { met = is ∙ met; rest = rw (refusal_due r met) }
+
+  -- all are, where none did
+  pub stored_all : (n : ℕ) (left : List Float) → n ≡ (up_to f m).refusal → (up_to f m).refusal ≡ 0 → left ≡ flat (up_to f m).value ++ drop (3 * m) row → Stored f m row left n
+  stored_all n left met none is = record { met = met; rest = is ∙ rw (points_due none, flat_length point f m) }
+
+  -- what the row holds is what is due of it, once it has room for all
+  module _ (room : fails ROW_TOO_SHORT (leb (3 * m) (length row)) ≡ 0) (left : List Float) where
+    pub written_not : (answer : Result ℕ Refusal) (r : Refusal) → IsErr answer × IsErrAnd answer (λ e. e ≡ r) → Stored f m row left (number r) → Drawn (fits (length row) m (answered (up_to f m))) row left (told answer)
+    written_not answer r exit s =
+        let d = refusal_due r s.met in
+        rw (room, d, passing_none 0 (refused (number r)) refl) (record { count = exit_is answer r exit; rest = s.rest ∙ ap (λ (x : Due (List Vec3)). row_after x row) d })
+
+    pub written_all : Stored f m row left 0 → Drawn (fits (length row) m (answered (up_to f m))) row left (due m)
+    written_all s =
+        let d = points_due (sym s.met) in
+        rw (room, d, passing_none 0 (due (up_to f m).value) refl) (record { count = ap (λ (n : ℕ). due n) (sym (up_to_length f m)); rest = s.rest ∙ ap (λ (x : Due (List Vec3)). row_after x row) d })

@@ -1,10 +1,13 @@
 -- Items one after the other, points above all, and a lent row that takes them.
-use Rattle.std.specs.Prelude.{ℕ, zero, suc, ◌*◌, ◌≡◌, refl, List, [], ◌∷◌, ◌++◌, leb, length, drop, Float}
+use Rattle.std.specs.Prelude.{ℕ, zero, suc, ◌*◌, ◌^◌, ◌<◌, ◌≡◌, refl, List, [], ◌∷◌, ◌++◌, leb, length, drop, Float, Result, Ok, Err}
+use Rattle.std.specs.Borrow.{MutBor}
 use Rattle.std.proofs.lemmas.List.Edits.{sets}
 use Rattle.checked.specs.Refusals.{ROW_TOO_SHORT}
-use Rattle.checked.specs.Checked.{Checked, first, ◌>>=◌, given, Due, due, refused, settled}
+use Rattle.checked.specs.Checked.{Checked, ◌>>=◌, given, Due, due, refused, answered}
 use Rattle.checked.specs.Answers.{number_of}
 use Rattle.checked.specs.Tests.{fails, passing}
+use Rattle.checked.specs.Told.{number, told}
+use Rattle.checked.specs.declared.Refusal.{Refusal}
 use Rattle.vectors.specs.declared.Vec3.{Vec3}
 
 -- what f gives at 1, at 2 and so on up to m, in this order
@@ -35,19 +38,6 @@ module _ {A : Type 0} (k : Item A) where
   abbrev pub fit_items : ℕ → ℕ → Due (List A) → Due (List A)
   fit_items room m rest = passing (fails ROW_TOO_SHORT (leb (k.width * m) room)) rest
 
--- m items, at least one, each of which meets the refusal `before`, if any, ahead of its own
-abbrev pub some_due : {A : Type 0} → ℕ → (ℕ → Checked A) → ℕ → Due (List A)
-some_due before f m = settled (first before (up_to f m).refusal) (up_to f m).value
-
--- any number of items: with none nothing is refused
-unfoldable pub all_refusal : {A : Type 0} → ℕ → (ℕ → Checked A) → ℕ → ℕ
-all_refusal before f zero = 0
-all_refusal before f (suc m) = first before (up_to f (suc m)).refusal
-
--- any number of items, in a row of `room` numbers
-unfoldable pub items_due : {A : Type 0} → Item A → ℕ → (ℕ → Checked A) → ℕ → ℕ → Due (List A)
-items_due k before f m room = fit_items k room m (settled (all_refusal before f m) (up_to f m).value)
-
 -- ---- what a call on a lent row leaves
 module _ {A : Type 0} (k : Item A) where
   -- the written part of the row
@@ -60,11 +50,14 @@ module _ {A : Type 0} (k : Item A) where
   row_after_items (due xs) row = flat_items k xs ++ drop (length (flat_items k xs)) row
   row_after_items (refused n) row = row
 
--- what a call answers, its refusal's number or 0 and how many items are written, and what it
--- leaves of the row
-pub record DrawnItems {A : Type 0} (k : Item A) (d : Due (List A)) (row left : List Float) (refusal count : ℕ) : Type 0 where
-  pub number : refusal ≡ number_of d
-  pub part : k.width * count ≡ length (part_items k d)
+-- how many items are written
+abbrev pub counted : {A : Type 0} → Due (List A) → Due ℕ
+counted (due xs) = due (length xs)
+counted (refused n) = refused n
+
+-- what a call answers, and what it leaves of the row
+pub record DrawnItems {A : Type 0} (k : Item A) (d : Due (List A)) (row left : List Float) (answer : Due ℕ) : Type 0 where
+  pub count : answer ≡ counted d
   pub rest : left ≡ row_after_items k d row
 
 -- ---- rows of points, three numbers each
@@ -83,14 +76,6 @@ placed i p buf = placed_item point i p buf
 abbrev pub fits : ℕ → ℕ → Due (List Vec3) → Due (List Vec3)
 fits room m rest = fit_items point room m rest
 
--- m points, at least one
-abbrev pub points_due : ℕ → (ℕ → Checked Vec3) → ℕ → Due (List Vec3)
-points_due before f m = some_due before f m
-
--- any number of them
-abbrev pub all_due : ℕ → (ℕ → Checked Vec3) → ℕ → ℕ → Due (List Vec3)
-all_due before f m room = items_due point before f m room
-
 -- the written part of the row
 abbrev pub part_of : Due (List Vec3) → List Float
 part_of d = part_items point d
@@ -99,6 +84,25 @@ part_of d = part_items point d
 abbrev pub row_after : Due (List Vec3) → List Float → List Float
 row_after d row = row_after_items point d row
 
--- what a call answers and leaves
-abbrev pub Drawn : Due (List Vec3) → List Float → List Float → ℕ → ℕ → Type 0
-Drawn d row left refusal points = DrawnItems point d row left refusal points
+-- what a call answers, and what it leaves
+abbrev pub Drawn : Due (List Vec3) → List Float → List Float → Due ℕ → Type 0
+Drawn d row left answer = DrawnItems point d row left answer
+
+-- a call that answers the written part of the row itself
+abbrev pub DrawnPart : Due (List Vec3) → Result (MutBor (List Float)) Refusal → Type 0
+DrawnPart d (Ok part) = (number_of d ≡ 0) × (part.now ≡ part_of d)
+DrawnPart d (Err r) = refused (number r) ≡ d
+
+-- ---- whoever draws: each call gives what f is, as a `u16` counts
+abbrev pub Gives : (ℕ → Result Vec3 Refusal → Type 0) → (ℕ → Checked Vec3) → Type 0
+Gives call f = (k : ℕ) (r : Result Vec3 Refusal) → k < 2 ^ 16 → call k r → told r ≡ answered (f k)
+
+-- a buffer that the points 1 to m are worked out into; after a refusal it may hold anything
+pub record Kept (f : ℕ → Checked Vec3) (m : ℕ) (buf left : List Float) (refusal : ℕ) : Type 0 where
+  pub met : refusal ≡ (up_to f m).refusal
+  pub points : refusal ≡ 0 → left ≡ flat (up_to f m).value ++ drop (3 * m) buf
+
+-- a row that holds them, or is as it was
+pub record Stored (f : ℕ → Checked Vec3) (m : ℕ) (row left : List Float) (refusal : ℕ) : Type 0 where
+  pub met : refusal ≡ (up_to f m).refusal
+  pub rest : left ≡ row_after (answered (up_to f m)) row

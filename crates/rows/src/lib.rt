@@ -1,37 +1,30 @@
 // Points written to a lent row, three numbers each, once the last of them is settled.
 //
-// A function cannot be handed to another one, so whoever draws has two loops of its own: one that
-// notes the points 1 to m, and one that works them out into the start of a buffer with `put`. With
-// f for its definition of a point, the first one's contract is `(up_to f m).refusal`, the second
-// one's that and `flat (up_to f m).value ++ drop (3 * m)` of the buffer; `up_to_refusal` and
-// `item_put` are a step of them. Up to KEPT points are worked out once, into a buffer that
-// `copy_part` copies to the row; more of them are worked out twice. `circles` is the pattern, and
-// its proofs, with another f, serve the next one.
+// Whoever draws hands in a closure that gives the point k, and says by a definition what it gives
+// (`Gives` in specs/Rows.antt). Up to KEPT points are worked out once, into a buffer that is copied
+// to the row; more of them are worked out twice. `circles` has the points of a circle.
 //
 // Definitions and laws are those of items of any width (`Item` in specs/Rows.antt); a point is one
 // of three numbers.
 #![tactic(auto)]
 
-ghost use Rattle.std.specs.Prelude.{◌≡◌, ◌++◌, ◌+◌, ◌-◌, ◌*◌, ◌≤◌, length, take, drop};
-ghost use Rattle.rows.specs.Rows.{placed};
+ghost use Rattle.std.specs.Prelude.{◌≡◌, ℕ, ◌+◌, ◌*◌, ◌≤◌, length};
+ghost use Rattle.checked.specs.Checked.{Checked, answered};
+ghost use Rattle.checked.specs.Told.{told, failed};
+ghost use Rattle.vectors.specs.declared.Vec3.{Vec3};
+ghost use Rattle.rows.specs.Rows.{up_to, placed, fits, Gives, Kept, Stored, Drawn};
 
+use checked::{Refusal, require};
 use vectors::Vec3;
 
 pub mod circles;
 
-// What a call on a lent row answers: the refusal's number or 0, and how many points are written.
-#[derive(Clone, Copy)]
-pub struct Written {
-    pub refusal: u8,
-    pub points: u16,
-}
-
 // The most points that are kept until the last of them is settled; an arc is hardly ever cut into
 // more.
-pub const KEPT: u16 = 64;
+const KEPT: u16 = 64;
 
 // The point p, behind the first i of a buffer.
-pub fn put(buf: &mut [f64], i: u16, p: Vec3)
+fn put(buf: &mut [f64], i: u16, p: Vec3)
     requires { 3 * i + 3 ≤ length buf.old }
     ensures { buf.new ≡ placed i p buf.old }
 {
@@ -41,22 +34,80 @@ pub fn put(buf: &mut [f64], i: u16, p: Vec3)
     buf[at + 2] = p.z;
 }
 
-// The first k numbers of a buffer, copied to the start of a row.
-pub fn copy_part(buf: &[f64], row: &mut [f64], k: usize)
-    requires in_buf { k ≤ length buf.now }
-    requires in_row { k ≤ length row.old }
-    ensures { row.new ≡ take k buf.now ++ drop k row.old }
+// Whether the points 1 to m meet a refusal, and which one first.
+fn settle<F: Fn(u16) -> Result<Vec3, Refusal>>(m: u16, point: &F) -> Result<(), Refusal>
+    requires { F.IsAlwaysCallable point.now }
+    ensures { (f : ℕ → Checked Vec3) → Gives (F.post point.now) f → failed result ≡ (up_to f m).refusal }
 {
-    let mut i: usize = 0;
-    while i < k {
-        row[i] = buf[i];
-        i += 1;
+    for i in 0..m {
+        point(i + 1)?;
     }
+    Ok(())
 }
 
-// One point fewer than chords: the inner ones.
-pub fn less_one(n: u16) -> u16
-    ensures { result ≡ n - 1 }
+// The points 1 to m, worked out into the start of a buffer, or the refusal that they meet first.
+fn work_out<F: Fn(u16) -> Result<Vec3, Refusal>>(
+    buf: &mut [f64],
+    m: u16,
+    point: &F,
+) -> Result<(), Refusal>
+    requires callable { F.IsAlwaysCallable point.now }
+    requires fits { 3 * m ≤ length buf.old }
+    ensures { (f : ℕ → Checked Vec3) → Gives (F.post point.now) f → Kept f m buf.old buf.new (failed result) }
 {
-    if n == 0 { 0 } else { n - 1 }
+    for i in 0..m {
+        let p = point(i + 1)?;
+        put(buf, i, p);
+    }
+    Ok(())
+}
+
+fn write_kept<F: Fn(u16) -> Result<Vec3, Refusal>>(
+    row: &mut [f64],
+    m: u16,
+    point: &F,
+) -> Result<(), Refusal>
+    requires callable { F.IsAlwaysCallable point.now }
+    requires fits_row { 3 * m ≤ length row.old }
+    requires few { m ≤ 64 }
+    ensures { (f : ℕ → Checked Vec3) → Gives (F.post point.now) f → Stored f m row.old row.new (failed result) }
+{
+    let mut buf = [0.0; 192];
+    work_out(&mut buf, m, point)?;
+    let n = 3 * (m as usize);
+    row[..n].copy_from_slice(&buf[..n]);
+    Ok(())
+}
+
+// Any number of points: they are worked out twice, since nothing is written before the last of them
+// is settled.
+fn write_twice<F: Fn(u16) -> Result<Vec3, Refusal>>(
+    row: &mut [f64],
+    m: u16,
+    point: &F,
+) -> Result<(), Refusal>
+    requires callable { F.IsAlwaysCallable point.now }
+    requires fits_row { 3 * m ≤ length row.old }
+    ensures { (f : ℕ → Checked Vec3) → Gives (F.post point.now) f → Stored f m row.old row.new (failed result) }
+{
+    settle(m, point)?;
+    work_out(row, m, point)
+}
+
+// Writes the points 1 to m and answers how many they are; a refusal leaves the row as it was.
+pub fn write<F: Fn(u16) -> Result<Vec3, Refusal>>(
+    row: &mut [f64],
+    m: u16,
+    point: F,
+) -> Result<u16, Refusal>
+    requires { F.IsAlwaysCallable point }
+    ensures { (f : ℕ → Checked Vec3) → Gives (F.post point) f → Drawn (fits (length row.old) m (answered (up_to f m))) row.old row.new (told result) }
+{
+    require(3 * (m as usize) <= row.len(), Refusal::RowTooShort)?;
+    if m <= KEPT {
+        write_kept(row, m, &point)?;
+    } else {
+        write_twice(row, m, &point)?;
+    }
+    Ok(m)
 }

@@ -1,9 +1,8 @@
 -- What the entries on surfaces are due to answer.
-use Rattle.std.specs.Prelude.{ℕ, ◌&&◌}
+use Rattle.std.specs.Prelude.{ℕ, ◌&&◌, Option}
 use Rattle.checked.specs.Refusals.{OUT_OF_RANGE}
-use Rattle.checked.specs.Checked.{within, Due, due, refused, answered}
+use Rattle.checked.specs.Checked.{within, Due, due, answered}
 use Rattle.checked.specs.Tests.{fails, ◌or◌, passing}
-use Rattle.traces.specs.Traces.{Optional, some, none}
 use Rattle.vectors.specs.declared.Vec3.{Vec3}
 use Rattle.vectors.specs.Vectors.{within3}
 use Rattle.motions.specs.declared.Rigid.{Rigid}
@@ -14,28 +13,7 @@ use Rattle.pieces.specs.Entries as pieces
 use Rattle.surfaces.specs.declared.Plane.{Plane}
 use Rattle.surfaces.specs.declared.Surface.{Surface}
 use Rattle.surfaces.specs.declared.Surface.TheVariants as surface
-use Rattle.surfaces.specs.declared.SurfaceAnswer.{SurfaceAnswer}
-use Rattle.surfaces.specs.declared.SurfaceAnswer.TheVariants as answer
-use Rattle.surfaces.specs.declared.PlaneAnswer.{PlaneAnswer}
-use Rattle.surfaces.specs.declared.PlaneAnswer.TheVariants as surface_plane
-use Rattle.surfaces.specs.declared.ConeAnswer.{ConeAnswer}
-use Rattle.surfaces.specs.declared.ConeAnswer.TheVariants as surface_cone
 use Rattle.surfaces.specs.Surfaces.{plane_of, cone_of, moved_c, normal_c}
-
--- ---- what the code's answers say
-abbrev pub surface_due : SurfaceAnswer → Due Surface
-surface_due (answer.Value s) = due s
-surface_due (answer.Refused n) = refused n
-
-abbrev pub surface_plane_due : PlaneAnswer → Due (Optional Plane)
-surface_plane_due (surface_plane.Value p) = due (some p)
-surface_plane_due surface_plane.Nothing = due none
-surface_plane_due (surface_plane.Refused n) = refused n
-
-abbrev pub surface_cone_due : ConeAnswer → Due (Optional Cone)
-surface_cone_due (surface_cone.Value c) = due (some c)
-surface_cone_due surface_cone.Nothing = due none
-surface_cone_due (surface_cone.Refused n) = refused n
 
 -- ---- what is tried
 -- the number of the test that a surface fails first
@@ -47,11 +25,11 @@ tests (surface.Wall w) = pieces.tests w
 
 -- ---- what is due
 -- `Surface::plane`
-unfoldable pub plane_due : Surface → Due (Optional Plane)
+unfoldable pub plane_due : Surface → Due (Option Plane)
 plane_due s = passing (tests s) (due (plane_of s))
 
 -- `Surface::revolution`
-unfoldable pub revolution_due : Surface → Due (Optional Cone)
+unfoldable pub revolution_due : Surface → Due (Option Cone)
 revolution_due s = passing (tests s) (due (cone_of s))
 
 -- `Surface::moved`

@@ -1,7 +1,7 @@
 -- The surface that a face lies on: a plane, a cylinder, a cone, or the wall over a piece.
+use Rattle.std.specs.Prelude.{Option, Some, None}
 use Rattle.checked.specs.Checked.{Checked, ◌>>=◌, given}
 use Rattle.checked.specs.Numbers.{zero}
-use Rattle.traces.specs.Traces.{Optional, some, none}
 use Rattle.vectors.specs.declared.Vec3.{Vec3}
 use Rattle.directions.specs.Directions.{unit_c}
 use Rattle.motions.specs.declared.Rigid.{Rigid}
@@ -17,18 +17,18 @@ use Rattle.surfaces.specs.declared.Surface.{Surface}
 use Rattle.surfaces.specs.declared.Surface.TheVariants as surface
 
 -- the plane, none for the others
-unfoldable pub plane_of : Surface → Optional Plane
-plane_of (surface.Plane p) = some p
-plane_of (surface.Cylinder c) = none
-plane_of (surface.Cone c) = none
-plane_of (surface.Wall w) = none
+unfoldable pub plane_of : Surface → Option Plane
+plane_of (surface.Plane p) = Some p
+plane_of (surface.Cylinder c) = None
+plane_of (surface.Cone c) = None
+plane_of (surface.Wall w) = None
 
 -- a surface of revolution as a cone, a cylinder as one of slope 0; none for the others
-unfoldable pub cone_of : Surface → Optional Cone
-cone_of (surface.Plane p) = none
-cone_of (surface.Cylinder c) = some (record { origin = c.origin; axis = c.axis; radius = c.radius; slope = zero; convex = c.convex })
-cone_of (surface.Cone c) = some c
-cone_of (surface.Wall w) = none
+unfoldable pub cone_of : Surface → Option Cone
+cone_of (surface.Plane p) = None
+cone_of (surface.Cylinder c) = Some (record { origin = c.origin; axis = c.axis; radius = c.radius; slope = zero; convex = c.convex })
+cone_of (surface.Cone c) = Some c
+cone_of (surface.Wall w) = None
 
 -- moved by m: its point turned and shifted, its normal or axis turned
 unfoldable pub moved_c : Surface → Rigid → Checked Surface

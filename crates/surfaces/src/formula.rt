@@ -1,101 +1,72 @@
 // A surface's formulas on numbers of any size, chosen by its case.
 ghost use Rattle.std.specs.Prelude.{◌≡◌};
+ghost use Rattle.checked.specs.Checked.{answered};
+ghost use Rattle.checked.specs.Told.{told};
 ghost use Rattle.surfaces.specs.Surfaces.{moved_c, wall_c, normal_c};
 
 use crate::normals::{cone, cylinder};
-use crate::{CheckedSurface, Cylinder, Plane, Surface};
-use checked::earlier;
+use crate::{Cylinder, Plane, Surface};
+use checked::Refusal;
 use cones::Cone;
 use curves::parts::moved_piece;
 use developments::formulas::unroll;
 use directions::formula::unit;
 use motions::{Rigid, axes};
 use pieces::Rolled;
-use vectors::{CheckedVec3, Vec3};
+use vectors::Vec3;
 
-pub fn moved(s: Surface, m: Rigid) -> CheckedSurface
-    ensures refusal { result.refusal ≡ (moved_c s m).refusal }
-    ensures value { result.value ≡ (moved_c s m).value }
+pub fn moved(s: Surface, m: Rigid) -> Result<Surface, Refusal>
+    ensures { told result ≡ answered (moved_c s m) }
 {
     match s {
         Surface::Plane(p) => {
-            let x = axes::moved(m, p.origin, p.normal);
-            let o = x.value.origin;
-            let a = x.value.along;
-            CheckedSurface {
-                refusal: x.refusal,
-                value: Surface::Plane(Plane {
-                    origin: o,
-                    normal: a,
-                }),
-            }
+            let x = axes::moved(m, p.origin, p.normal)?;
+            Ok(Surface::Plane(Plane {
+                origin: x.origin,
+                normal: x.along,
+            }))
         }
         Surface::Cylinder(c) => {
-            let x = axes::moved(m, c.origin, c.axis);
-            let o = x.value.origin;
-            let a = x.value.along;
-            CheckedSurface {
-                refusal: x.refusal,
-                value: Surface::Cylinder(Cylinder {
-                    origin: o,
-                    axis: a,
-                    radius: c.radius,
-                    convex: c.convex,
-                }),
-            }
+            let x = axes::moved(m, c.origin, c.axis)?;
+            Ok(Surface::Cylinder(Cylinder {
+                origin: x.origin,
+                axis: x.along,
+                radius: c.radius,
+                convex: c.convex,
+            }))
         }
         Surface::Cone(c) => {
-            let x = axes::moved(m, c.origin, c.axis);
-            let o = x.value.origin;
-            let a = x.value.along;
-            CheckedSurface {
-                refusal: x.refusal,
-                value: Surface::Cone(Cone {
-                    origin: o,
-                    axis: a,
-                    radius: c.radius,
-                    slope: c.slope,
-                    convex: c.convex,
-                }),
-            }
+            let x = axes::moved(m, c.origin, c.axis)?;
+            Ok(Surface::Cone(Cone {
+                origin: x.origin,
+                axis: x.along,
+                radius: c.radius,
+                slope: c.slope,
+                convex: c.convex,
+            }))
         }
-        Surface::Wall(w) => {
-            let x = moved_piece(w, m);
-            let q = x.value;
-            CheckedSurface {
-                refusal: x.refusal,
-                value: Surface::Wall(q),
-            }
-        }
+        Surface::Wall(w) => Ok(Surface::Wall(moved_piece(w, m)?)),
     }
 }
 
 // A wall's normal: that of its piece where p unrolls to, near the piece's start.
-fn wall_normal(w: Rolled, p: Vec3) -> CheckedVec3
-    ensures refusal { result.refusal ≡ (wall_c w p).refusal }
-    ensures value { result.value ≡ (wall_c w p).value }
+fn wall_normal(w: Rolled, p: Vec3) -> Result<Vec3, Refusal>
+    ensures { told result ≡ answered (wall_c w p) }
 {
-    let x = unroll(
+    let q = unroll(
         w.dev.origin,
         w.dev.axis,
         w.dev.start,
         w.dev.neutral,
         p,
         w.from.x,
-    );
-    let q = x.value.p;
-    let n = pieces::formula::normal(w, q, x.value.r);
-    let v = n.value;
-    CheckedVec3 {
-        refusal: earlier(x.refusal, n.refusal),
-        value: v,
-    }
+    )?;
+    pieces::formula::normal(w, q.p, q.r)
 }
 
 // The unit normal out of the body at p.
-pub fn normal(s: Surface, p: Vec3) -> CheckedVec3
-    ensures refusal { result.refusal ≡ (normal_c s p).refusal }
-    ensures value { result.value ≡ (normal_c s p).value }
+pub fn normal(s: Surface, p: Vec3) -> Result<Vec3, Refusal>
+    ensures { told result ≡ answered (normal_c s p) }
 {
     match s {
         Surface::Plane(f) => unit(f.normal),

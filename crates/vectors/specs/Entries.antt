@@ -2,29 +2,11 @@
 use Rattle.std.specs.Prelude.{ℕ, cond, ◌&&◌, List, [], ◌∷◌, Float}
 use Rattle.std.specs.Float.Ieee.{le}
 use Rattle.checked.specs.Refusals.{OUT_OF_RANGE}
-use Rattle.checked.specs.Checked.{within, Due, due, refused, settled, answered}
+use Rattle.checked.specs.Checked.{within, Due, due, answered}
 use Rattle.checked.specs.Tests.{fails, passing}
 use Rattle.vectors.specs.Vectors.{within3, plus_c, minus_c, times_c, neg_c, cross_c, dot_c}
 use Rattle.vectors.specs.declared.Vec3.{Vec3}
-use Rattle.vectors.specs.declared.VectorAnswer.{VectorAnswer}
-use Rattle.vectors.specs.declared.VectorAnswer.TheVariants as vector
-use Rattle.vectors.specs.declared.Coordinates.{Coordinates}
-use Rattle.vectors.specs.declared.IndexAnswer.{IndexAnswer}
-use Rattle.vectors.specs.declared.IndexAnswer.TheVariants as index
 use Rattle.float_bits.specs.FloatBits.{fabs}
-
--- ---- what the code's answers say
-abbrev pub vector_due : VectorAnswer → Due Vec3
-vector_due (vector.Value v) = due v
-vector_due (vector.Refused n) = refused n
-
--- three numbers, or a refusal beside numbers that mean nothing
-abbrev pub coordinates_due : Coordinates → Due (List Float)
-coordinates_due c = settled c.refusal c.values
-
-abbrev pub index_due : IndexAnswer → Due ℕ
-index_due (index.Value k) = due k
-index_due (index.Refused n) = refused n
 
 -- ---- what is due
 -- `Vec3::dot`

@@ -1,10 +1,11 @@
-// The vectors' operations on numbers of any size. A result that is not finite is for the caller to note.
+// The vectors' operations on numbers of any size. A result that is not finite is for the caller to try.
 ghost use Rattle.std.specs.Prelude.{◌≡◌};
-ghost use Rattle.checked.specs.Checked.{first};
+ghost use Rattle.checked.specs.Checked.{settled};
+ghost use Rattle.checked.specs.Told.{told};
 ghost use Rattle.vectors.specs.Vectors.{nines, plus_c, minus_c, times_c, neg_c, cross_c, dot_c};
 
 use crate::Vec3;
-use checked::note;
+use checked::{Refusal, finite};
 
 pub fn plus(a: Vec3, b: Vec3) -> Vec3
     ensures { result ≡ (plus_c a b).value }
@@ -62,9 +63,12 @@ pub fn dot(a: Vec3, b: Vec3) -> f64
     a.x * b.x + a.y * b.y + a.z * b.z
 }
 
-// The refusal met first: r where there is one, else that of the vector's numbers.
-pub fn noted(a: Vec3, r: u8) -> u8
-    ensures { result ≡ first r (nines a) }
+// A vector that the result depends on, or the refusal where one of its numbers is not finite.
+pub fn finite3(v: Vec3) -> Result<Vec3, Refusal>
+    ensures { told result ≡ settled (nines v) v }
 {
-    note(note(note(r, a.x), a.y), a.z)
+    finite(v.x)?;
+    finite(v.y)?;
+    finite(v.z)?;
+    Ok(v)
 }

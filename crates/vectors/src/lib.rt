@@ -2,11 +2,13 @@
 #![tactic(auto)]
 
 ghost use Rattle.std.specs.Prelude.{◌≡◌, ◌&&◌};
-ghost use Rattle.checked.specs.Checked.{number_due, settled, within};
-ghost use Rattle.vectors.specs.Vectors.{within2, within3, nines, plane, space};
-ghost use Rattle.vectors.specs.Entries.{vector_due, coordinates_due, dot_due, cross_due, sum_due, difference_due, negation_due, times_due, to_array_due, largest, dominant_axis_due, index_due};
+ghost use Rattle.checked.specs.Checked.{within};
+ghost use Rattle.checked.specs.Told.{told};
+ghost use Rattle.vectors.specs.Vectors.{within2, within3, plane, space};
+ghost use Rattle.vectors.specs.Entries.{dot_due, cross_due, sum_due, difference_due, negation_due, times_due, to_array_due, largest, dominant_axis_due};
 
-use checked::{CheckedNumber, NumberAnswer, OUT_OF_RANGE, fails, is_within, note};
+use crate::formula::finite3;
+use checked::{Refusal, finite, is_within, require};
 
 pub mod formula;
 
@@ -23,34 +25,6 @@ pub struct Vec3 {
     pub x: f64,
     pub y: f64,
     pub z: f64,
-}
-
-// A vector, with the refusal that its computation met first; 0 is none.
-#[derive(Clone, Copy)]
-pub struct CheckedVec3 {
-    pub value: Vec3,
-    pub refusal: u8,
-}
-
-// The answer of an entry whose result is a vector.
-#[derive(Clone, Copy)]
-pub enum VectorAnswer {
-    Value(Vec3),
-    Refused(u8),
-}
-
-// The answer of an entry whose result is three numbers; zeros beside a refusal.
-#[derive(Clone, Copy)]
-pub struct Coordinates {
-    pub refusal: u8,
-    pub values: [f64; 3],
-}
-
-// The answer of an entry whose result is an index.
-#[derive(Clone, Copy)]
-pub enum IndexAnswer {
-    Value(usize),
-    Refused(u8),
 }
 
 // All numbers of a vector pass the test of what is handed in.
@@ -76,29 +50,6 @@ fn is_within_times(a: Vec3, k: f64) -> bool
     ensures { result ≡ (within3 a && within k) }
 {
     is_within3(a) & is_within(k)
-}
-
-// The vector, or its refusal where there is one.
-pub fn settle(c: CheckedVec3) -> VectorAnswer
-    ensures { vector_due result ≡ settled c.refusal c.value }
-{
-    let r = c.refusal;
-    let v = c.value;
-    if r == 0 {
-        VectorAnswer::Value(v)
-    } else {
-        VectorAnswer::Refused(r)
-    }
-}
-
-// The vector, or a refusal where one of its numbers is not finite.
-pub fn tried(v: Vec3) -> VectorAnswer
-    ensures { vector_due result ≡ settled (nines v) v }
-{
-    settle(CheckedVec3 {
-        refusal: formula::noted(v, 0),
-        value: v,
-    })
 }
 
 // Which of three numbers is the largest, the first one of equals.
@@ -154,109 +105,67 @@ impl Vec3 {
         Self { x: x, y: y, z: z }
     }
 
-    pub fn dot(self, o: Self) -> NumberAnswer
-        ensures { number_due result ≡ dot_due self o }
+    pub fn dot(self, o: Self) -> Result<f64, Refusal>
+        ensures { told result ≡ dot_due self o }
     {
-        let t = fails(OUT_OF_RANGE, are_within(self, o));
-        if t == 0 {
-            let d = formula::dot(self, o);
-            checked::settle(CheckedNumber {
-                refusal: note(0, d),
-                value: d,
-            })
-        } else {
-            NumberAnswer::Refused(t)
-        }
+        require(are_within(self, o), Refusal::OutOfRange)?;
+        finite(formula::dot(self, o))
     }
 
-    pub fn cross(self, o: Self) -> VectorAnswer
-        ensures { vector_due result ≡ cross_due self o }
+    pub fn cross(self, o: Self) -> Result<Vec3, Refusal>
+        ensures { told result ≡ cross_due self o }
     {
-        let t = fails(OUT_OF_RANGE, are_within(self, o));
-        if t == 0 {
-            tried(formula::cross(self, o))
-        } else {
-            VectorAnswer::Refused(t)
-        }
+        require(are_within(self, o), Refusal::OutOfRange)?;
+        finite3(formula::cross(self, o))
     }
 
     // self + o
-    pub fn sum(self, o: Self) -> VectorAnswer
-        ensures { vector_due result ≡ sum_due self o }
+    pub fn sum(self, o: Self) -> Result<Vec3, Refusal>
+        ensures { told result ≡ sum_due self o }
     {
-        let t = fails(OUT_OF_RANGE, are_within(self, o));
-        if t == 0 {
-            tried(formula::plus(self, o))
-        } else {
-            VectorAnswer::Refused(t)
-        }
+        require(are_within(self, o), Refusal::OutOfRange)?;
+        finite3(formula::plus(self, o))
     }
 
     // self - o
-    pub fn difference(self, o: Self) -> VectorAnswer
-        ensures { vector_due result ≡ difference_due self o }
+    pub fn difference(self, o: Self) -> Result<Vec3, Refusal>
+        ensures { told result ≡ difference_due self o }
     {
-        let t = fails(OUT_OF_RANGE, are_within(self, o));
-        if t == 0 {
-            tried(formula::minus(self, o))
-        } else {
-            VectorAnswer::Refused(t)
-        }
+        require(are_within(self, o), Refusal::OutOfRange)?;
+        finite3(formula::minus(self, o))
     }
 
     // -self
-    pub fn negation(self) -> VectorAnswer
-        ensures { vector_due result ≡ negation_due self }
+    pub fn negation(self) -> Result<Vec3, Refusal>
+        ensures { told result ≡ negation_due self }
     {
-        let t = fails(OUT_OF_RANGE, is_within3(self));
-        if t == 0 {
-            tried(formula::neg(self))
-        } else {
-            VectorAnswer::Refused(t)
-        }
+        require(is_within3(self), Refusal::OutOfRange)?;
+        finite3(formula::neg(self))
     }
 
     // self * k
-    pub fn times(self, k: f64) -> VectorAnswer
-        ensures { vector_due result ≡ times_due self k }
+    pub fn times(self, k: f64) -> Result<Vec3, Refusal>
+        ensures { told result ≡ times_due self k }
     {
-        let t = fails(OUT_OF_RANGE, is_within_times(self, k));
-        if t == 0 {
-            tried(formula::times(self, k))
-        } else {
-            VectorAnswer::Refused(t)
-        }
+        require(is_within_times(self, k), Refusal::OutOfRange)?;
+        finite3(formula::times(self, k))
     }
 
-    pub fn dominant_axis(self) -> IndexAnswer
-        ensures { index_due result ≡ dominant_axis_due self }
+    pub fn dominant_axis(self) -> Result<usize, Refusal>
+        ensures { told result ≡ dominant_axis_due self }
     {
-        let t = fails(OUT_OF_RANGE, is_within3(self));
-        if t == 0 {
-            IndexAnswer::Value(largest(
-                float_bits::fabs(self.x),
-                float_bits::fabs(self.y),
-                float_bits::fabs(self.z),
-            ))
-        } else {
-            IndexAnswer::Refused(t)
-        }
+        require(is_within3(self), Refusal::OutOfRange)?;
+        Ok(largest(
+            float_bits::fabs(self.x),
+            float_bits::fabs(self.y),
+            float_bits::fabs(self.z),
+        ))
     }
 
-    pub fn to_array(self) -> Coordinates
-        ensures { coordinates_due result ≡ to_array_due self }
+    pub fn to_array(self) -> Result<[f64; 3], Refusal>
+        ensures { told result ≡ to_array_due self }
     {
-        let t = fails(OUT_OF_RANGE, is_within3(self));
-        if t == 0 {
-            Coordinates {
-                refusal: 0,
-                values: [self.x, self.y, self.z],
-            }
-        } else {
-            Coordinates {
-                refusal: t,
-                values: [0.0, 0.0, 0.0],
-            }
-        }
+        require(is_within3(self), Refusal::OutOfRange)?;
+        Ok([self.x, self.y, self.z])
     }
 }

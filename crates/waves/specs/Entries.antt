@@ -1,28 +1,14 @@
 -- What the entries on waves are due to answer.
 use Rattle.std.specs.Prelude.{Bool, ◌&&◌, Float}
 use Rattle.checked.specs.Refusals.{OUT_OF_RANGE}
-use Rattle.checked.specs.Checked.{within, Due, due, refused, answered}
+use Rattle.checked.specs.Checked.{within, Due, answered}
 use Rattle.checked.specs.Tests.{fails, ◌or◌, passing, neutral_test}
 use Rattle.waves.specs.declared.values.Jet.{Jet}
 use Rattle.waves.specs.Values.{derivatives_c}
 use Rattle.waves.specs.declared.turning_points.Span.{Span}
 use Rattle.waves.specs.TurningPoints.{range_c}
 use Rattle.waves.specs.declared.Wave.{Wave}
-use Rattle.waves.specs.declared.WaveAnswer.{WaveAnswer}
-use Rattle.waves.specs.declared.WaveAnswer.TheVariants as wave_jet
-use Rattle.waves.specs.declared.SpanAnswer.{SpanAnswer}
-use Rattle.waves.specs.declared.SpanAnswer.TheVariants as wave_span
 
--- ---- what the code's answers say
-abbrev pub jet_due : WaveAnswer → Due Jet
-jet_due (wave_jet.Value v) = due v
-jet_due (wave_jet.Refused n) = refused n
-
-abbrev pub span_due : SpanAnswer → Due Span
-span_due (wave_span.Value v) = due v
-span_due (wave_span.Refused n) = refused n
-
--- ---- what is due
 -- all numbers of a wave pass the test of what is handed in
 unfoldable pub wave_within : Wave → Bool
 wave_within w = within w.a && (within w.b && within w.c)

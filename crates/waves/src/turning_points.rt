@@ -1,9 +1,11 @@
 // The least and the greatest v of a wave between two places, on numbers of any size: at the ends, or where the wave turns between them.
 ghost use Rattle.std.specs.Prelude.{◌≡◌};
+ghost use Rattle.checked.specs.Checked.{answered};
+ghost use Rattle.checked.specs.Told.{told};
 ghost use Rattle.waves.specs.TurningPoints.{turning_c, start_c, turns_c, range_c};
 
 use crate::values::v;
-use checked::{COUNT_TOO_LARGE, CheckedNumber, PI, earlier, note};
+use checked::{PI, Refusal, finite};
 use libm::atan2::atan2;
 use order::{greatest, least};
 use rounding::ceil;
@@ -18,12 +20,6 @@ pub struct Span {
     pub high: f64,
 }
 
-#[derive(Clone, Copy)]
-pub struct CheckedSpan {
-    pub value: Span,
-    pub refusal: u8,
-}
-
 // The turning points of the wave of a, b, c and n up to `hi`: the k-th is at first + k·half.
 #[derive(Clone, Copy)]
 pub struct Turning {
@@ -36,12 +32,6 @@ pub struct Turning {
     pub half: f64,
 }
 
-#[derive(Clone, Copy)]
-pub struct CheckedTurning {
-    pub value: Turning,
-    pub refusal: u8,
-}
-
 // The number of the next turning point, and the least and greatest v before it.
 #[derive(Clone, Copy)]
 pub struct RangeSoFar {
@@ -50,98 +40,69 @@ pub struct RangeSoFar {
     pub high: f64,
 }
 
-fn turning_of(a: f64, b: f64, c: f64, n: f64, hi: f64) -> CheckedTurning
-    ensures refusal { result.refusal ≡ (turning_c a b c n hi).refusal }
-    ensures value { result.value ≡ (turning_c a b c n hi).value }
+fn turning_of(a: f64, b: f64, c: f64, n: f64, hi: f64) -> Result<Turning, Refusal>
+    ensures { told result ≡ answered (turning_c a b c n hi) }
 {
-    let first = atan2(c, b) * n;
-    let half = PI * n;
-    CheckedTurning {
-        refusal: note(note(0, first), half),
-        value: Turning {
-            a: a,
-            b: b,
-            c: c,
-            n: n,
-            hi: hi,
-            first: first,
-            half: half,
-        },
-    }
+    let first = finite(atan2(c, b) * n)?;
+    let half = finite(PI * n)?;
+    Ok(Turning {
+        a,
+        b,
+        c,
+        n,
+        hi,
+        first,
+        half,
+    })
 }
 
 // The number of the first turning point not before `lo`.
-fn start(t: Turning, lo: f64) -> CheckedNumber
-    ensures refusal { result.refusal ≡ (start_c t lo).refusal }
-    ensures value { result.value ≡ (start_c t lo).value }
+fn start(t: Turning, lo: f64) -> Result<f64, Refusal>
+    ensures { told result ≡ answered (start_c t lo) }
 {
-    let k = ceil((lo - t.first) / t.half);
-    CheckedNumber {
-        refusal: note(0, k),
-        value: k,
-    }
+    finite(ceil((lo - t.first) / t.half))
 }
 
 // The turning points from the k-th on, up to the end of the range.
-fn turns(t: Turning, k0: f64, low0: f64, high0: f64) -> CheckedSpan
-    ensures refusal { result.refusal ≡ (turns_c t k0 low0 high0).refusal }
-    ensures value { result.value ≡ (turns_c t k0 low0 high0).value }
+fn turns(t: Turning, k: f64, low: f64, high: f64) -> Result<Span, Refusal>
+    ensures { told result ≡ answered (turns_c t k low high) }
 {
-    let mut k = k0;
-    let mut low = low0;
-    let mut high = high0;
-    let mut r: u8 = 0;
-    let mut left = TURNING_POINTS;
-    while t.first + k * t.half <= t.hi {
-        let p = t.first + k * t.half;
-        if left == 0 {
-            return CheckedSpan {
-                refusal: earlier(note(r, p), COUNT_TOO_LARGE),
-                value: Span {
-                    low: low,
-                    high: high,
-                },
-            };
+    let mut s = RangeSoFar { k, low, high };
+    for _ in 0..TURNING_POINTS {
+        let p = finite(t.first + s.k * t.half)?;
+        if !(p <= t.hi) {
+            return Ok(Span {
+                low: s.low,
+                high: s.high,
+            });
         }
-        let x = v(t.a, t.b, t.c, p, t.n);
-        low = least(low, x.value);
-        high = greatest(high, x.value);
-        k = k + 1.0;
-        r = note(earlier(r, x.refusal), k);
-        left -= 1;
+        let x = v(t.a, t.b, t.c, p, t.n)?;
+        let next = finite(s.k + 1.0)?;
+        s = RangeSoFar {
+            k: next,
+            low: least(s.low, x),
+            high: greatest(s.high, x),
+        };
     }
-    CheckedSpan {
-        refusal: note(r, t.first + k * t.half),
-        value: Span {
-            low: low,
-            high: high,
-        },
+    let p = finite(t.first + s.k * t.half)?;
+    if p <= t.hi {
+        Err(Refusal::CountTooLarge)
+    } else {
+        Ok(Span {
+            low: s.low,
+            high: s.high,
+        })
     }
 }
 
-pub fn range(a: f64, b: f64, c: f64, u0: f64, u1: f64, n: f64) -> CheckedSpan
-    ensures refusal { result.refusal ≡ (range_c a b c u0 u1 n).refusal }
-    ensures value { result.value ≡ (range_c a b c u0 u1 n).value }
+pub fn range(a: f64, b: f64, c: f64, u0: f64, u1: f64, n: f64) -> Result<Span, Refusal>
+    ensures { told result ≡ answered (range_c a b c u0 u1 n) }
 {
     let lo = least(u0, u1);
     let hi = greatest(u0, u1);
-    let x = v(a, b, c, lo, n);
-    let y = v(a, b, c, hi, n);
-    let z = turning_of(a, b, c, n, hi);
-    let t = z.value;
-    let k = start(t, lo);
-    let o = turns(
-        t,
-        k.value,
-        least(x.value, y.value),
-        greatest(x.value, y.value),
-    );
-    let out = o.value;
-    CheckedSpan {
-        refusal: earlier(
-            x.refusal,
-            earlier(y.refusal, earlier(z.refusal, earlier(k.refusal, o.refusal))),
-        ),
-        value: out,
-    }
+    let x = v(a, b, c, lo, n)?;
+    let y = v(a, b, c, hi, n)?;
+    let t = turning_of(a, b, c, n, hi)?;
+    let k = start(t, lo)?;
+    turns(t, k, least(x, y), greatest(x, y))
 }

@@ -1,9 +1,11 @@
 // A wave v = a + b·cos(u / n) + c·sin(u / n) at u, and its derivatives in u, on numbers of any size. A call works out what its caller reads, and no
 // more: v, the slope, the bend, v with the slope, all three.
 ghost use Rattle.std.specs.Prelude.{◌≡◌};
+ghost use Rattle.checked.specs.Checked.{answered};
+ghost use Rattle.checked.specs.Told.{told};
 ghost use Rattle.waves.specs.Values.{v_c, slope_c, bend_c, with_slope_c, derivatives_c};
 
-use checked::{CheckedNumber, note};
+use checked::{Refusal, finite};
 use libm::sincos::sincos;
 
 // v and its first derivative in u.
@@ -11,12 +13,6 @@ use libm::sincos::sincos;
 pub struct WaveSlope {
     pub v: f64,
     pub slope: f64,
-}
-
-#[derive(Clone, Copy)]
-pub struct CheckedWaveSlope {
-    pub value: WaveSlope,
-    pub refusal: u8,
 }
 
 // v with its first and second derivatives in u.
@@ -27,77 +23,44 @@ pub struct Jet {
     pub bend: f64,
 }
 
-#[derive(Clone, Copy)]
-pub struct CheckedJet {
-    pub value: Jet,
-    pub refusal: u8,
+pub fn v(a: f64, b: f64, c: f64, u: f64, n: f64) -> Result<f64, Refusal>
+    ensures { told result ≡ answered (v_c a b c u n) }
+{
+    let t = sincos(u / n)?;
+    finite(a + b * t.cos + c * t.sin)
 }
 
-pub fn v(a: f64, b: f64, c: f64, u: f64, n: f64) -> CheckedNumber
-    ensures refusal { result.refusal ≡ (v_c a b c u n).refusal }
-    ensures value { result.value ≡ (v_c a b c u n).value }
+pub fn slope(b: f64, c: f64, u: f64, n: f64) -> Result<f64, Refusal>
+    ensures { told result ≡ answered (slope_c b c u n) }
 {
-    let t = sincos(u / n);
-    let v = a + b * t.cos + c * t.sin;
-    CheckedNumber {
-        refusal: note(t.refusal, v),
-        value: v,
-    }
+    let t = sincos(u / n)?;
+    finite((c * t.cos - b * t.sin) / n)
 }
 
-pub fn slope(b: f64, c: f64, u: f64, n: f64) -> CheckedNumber
-    ensures refusal { result.refusal ≡ (slope_c b c u n).refusal }
-    ensures value { result.value ≡ (slope_c b c u n).value }
+pub fn bend(b: f64, c: f64, u: f64, n: f64) -> Result<f64, Refusal>
+    ensures { told result ≡ answered (bend_c b c u n) }
 {
-    let t = sincos(u / n);
-    let d = (c * t.cos - b * t.sin) / n;
-    CheckedNumber {
-        refusal: note(t.refusal, d),
-        value: d,
-    }
+    let t = sincos(u / n)?;
+    let s = finite(n * n)?;
+    finite(-(b * t.cos + c * t.sin) / s)
 }
 
-pub fn bend(b: f64, c: f64, u: f64, n: f64) -> CheckedNumber
-    ensures refusal { result.refusal ≡ (bend_c b c u n).refusal }
-    ensures value { result.value ≡ (bend_c b c u n).value }
+pub fn with_slope(a: f64, b: f64, c: f64, u: f64, n: f64) -> Result<WaveSlope, Refusal>
+    ensures { told result ≡ answered (with_slope_c a b c u n) }
 {
-    let t = sincos(u / n);
-    let s = n * n;
-    let e = -(b * t.cos + c * t.sin) / s;
-    CheckedNumber {
-        refusal: note(note(t.refusal, s), e),
-        value: e,
-    }
+    let t = sincos(u / n)?;
+    let v = finite(a + b * t.cos + c * t.sin)?;
+    let slope = finite((c * t.cos - b * t.sin) / n)?;
+    Ok(WaveSlope { v, slope })
 }
 
-pub fn with_slope(a: f64, b: f64, c: f64, u: f64, n: f64) -> CheckedWaveSlope
-    ensures refusal { result.refusal ≡ (with_slope_c a b c u n).refusal }
-    ensures value { result.value ≡ (with_slope_c a b c u n).value }
+pub fn jet_at(a: f64, b: f64, c: f64, u: f64, n: f64) -> Result<Jet, Refusal>
+    ensures { told result ≡ answered (derivatives_c a b c u n) }
 {
-    let t = sincos(u / n);
-    let v = a + b * t.cos + c * t.sin;
-    let d = (c * t.cos - b * t.sin) / n;
-    CheckedWaveSlope {
-        refusal: note(note(t.refusal, v), d),
-        value: WaveSlope { v: v, slope: d },
-    }
-}
-
-pub fn jet_at(a: f64, b: f64, c: f64, u: f64, n: f64) -> CheckedJet
-    ensures refusal { result.refusal ≡ (derivatives_c a b c u n).refusal }
-    ensures value { result.value ≡ (derivatives_c a b c u n).value }
-{
-    let t = sincos(u / n);
-    let v = a + b * t.cos + c * t.sin;
-    let d = (c * t.cos - b * t.sin) / n;
-    let s = n * n;
-    let e = -(b * t.cos + c * t.sin) / s;
-    CheckedJet {
-        refusal: note(note(note(note(t.refusal, v), d), s), e),
-        value: Jet {
-            v: v,
-            slope: d,
-            bend: e,
-        },
-    }
+    let t = sincos(u / n)?;
+    let v = finite(a + b * t.cos + c * t.sin)?;
+    let slope = finite((c * t.cos - b * t.sin) / n)?;
+    let s = finite(n * n)?;
+    let bend = finite(-(b * t.cos + c * t.sin) / s)?;
+    Ok(Jet { v, slope, bend })
 }

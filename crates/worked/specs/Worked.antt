@@ -1,5 +1,5 @@
 -- Cases worked out by hand: one list, which one lemma checks by computing what is due.
-use Rattle.std.specs.Prelude.{ℕ, zero as none, suc, ◌/◌, ◌%◌, ◌≡◌, refl, true, false, List, [], ◌∷◌, ◌++◌, length, Float}
+use Rattle.std.specs.Prelude.{ℕ, zero as none, suc, ◌/◌, ◌%◌, ◌≡◌, refl, true, false, List, [], ◌∷◌, ◌++◌, length, Float, Some, None, Option}
 use Prim.Native.String.{String}
 use Rattle.std.specs.Float.{binary64}
 use Rattle.std.specs.Float.Ieee.{add, sub, mul, div, neg, lt, le, eq, is_nan, of_bits, to_bits, of_int, to_unsigned, to_signed}
@@ -45,12 +45,10 @@ use Rattle.meets.specs.declared.Meet.{Meet}
 use Rattle.meets.specs.Meets.{pipe_c, height_c}
 use Rattle.meets.specs.Entries.{turn_within, meet_within}
 use Rattle.traces.specs.declared.Trace.TheVariants as trace
-use Rattle.traces.specs.Traces.{some, meet_height_c, meet_c, v_c, trace_within, v_due}
+use Rattle.traces.specs.Traces.{meet_height_c, meet_c, v_c, trace_within, v_due}
 use Rattle.libm.specs.Hypot as hypotenuse
 use Rattle.developments.specs.declared.Development.{Development}
 use Rattle.developments.specs.Developments.{development_within}
-use Rattle.piece_curves.specs.declared.PieceArc.TheVariants as arc_variants
-use Rattle.piece_curves.specs.declared.PieceTrace.TheVariants as trace_variants
 use Rattle.piece_curves.specs.PieceCurves as runs
 use Rattle.piece_curves.specs.Points as run_points
 use Rattle.piece_lengths.specs.Measures.{distance_c}
@@ -64,7 +62,7 @@ use Rattle.decimals.specs.Thousandths.{signed as signed_whole, thousandths}
 use Rattle.decimals.specs.Digits.{spelled, digits, numeral}
 use Rattle.edge_lines.specs.Lines.{bytes, spaced, corner, empty_line, refused_line, box_line}
 use Rattle.edge_records.specs.Records.{low_first, number_at, point_at, tagged, head_of, kind_of, edge_of, record_of, size_of}
-use Rattle.edge_file.specs.EdgeFile.{next, printed, ended, line_from, line_of}
+use Rattle.edge_file.specs.EdgeFile.{next, ended, line_from, line_of}
 
 -- what a case says
 pub data Case : Type 0 where
@@ -105,7 +103,7 @@ Holds (draws arc from to chord n) = how_many (inner_points_due arc from to chord
 Holds (boxed arc from to low high) = extend_due arc from to empty ≡ due (record { low = low; high = high })
 Holds (turns arc a b angle) = turn_due arc a b ≡ due angle
 Holds (waves w u n v slope bend) = at_due w u n ≡ due (record { v = v; slope = slope; bend = bend })
-Holds (meets m u n v) = v_due (trace.Meet m) u n ≡ due (some v)
+Holds (meets m u n v) = v_due (trace.Meet m) u n ≡ due (Some v)
 Holds (places p t at d) = pieces.at_due p t ≡ due (record { p = at; d = d })
 Holds (spans p low high) = pieces.uv_box_due p ≡ due (record { low = low; high = high })
 Holds (polylines p deviation n) = pieces.polyline_due p deviation ≡ due n
@@ -162,13 +160,13 @@ abbrev sheet : Development
 sheet = record { origin = origin; axis = space zero zero one; start = space one zero zero; neutral = float 10 }
 
 abbrev straight : Rolled
-straight = record { dev = sheet; from = plane zero zero; to = plane (float 8) (float 4); arc = arc_variants.Without; trace = trace_variants.Without }
+straight = record { dev = sheet; from = plane zero zero; to = plane (float 8) (float 4); arc = None; trace = None }
 
 abbrev bow : Rolled
-bow = record { dev = sheet; from = plane five zero; to = plane zero five; arc = arc_variants.With (record { center = plane zero zero; ccw = true }); trace = trace_variants.Without }
+bow = record { dev = sheet; from = plane five zero; to = plane zero five; arc = Some (record { center = plane zero zero; ccw = true }); trace = None }
 
 abbrev level : Rolled
-level = record { dev = sheet; from = plane zero zero; to = plane (float 8) zero; arc = arc_variants.Without; trace = trace_variants.With (trace.Wave (record { a = zero; b = zero; c = zero })) }
+level = record { dev = sheet; from = plane zero zero; to = plane (float 8) zero; arc = None; trace = Some (trace.Wave (record { a = zero; b = zero; c = zero })) }
 
 -- 0.25
 abbrev quarter : Float
@@ -221,5 +219,5 @@ cases =
 
 -- every case computes
 pub all_hold : All cases
-unfolding cases add sub mul div neg lt le eq is_nan of_bits to_bits first is_finite nine within settled fabs signed choose sqrt reduced atan is_one ratio_angle angle atan2 negative least greatest within2 within3 plus_c minus_c times_c neg_c cross_c dot_c lesser greater widened widened_by numbers free box_call length_c across_c ahead_c back_c apart_c turn_c turn_due sweep_from_c sweep_c side_c taken_c both_c extremes_c points_c circle_within ends_within chord_within sweep_due extend_due reversed_c reversed_due in_bytes number point arc_record signed_whole thousandths spelled digits numeral bytes spaced corner empty_line refused_line box_line low_first number_at point_at tagged head_of kind_of edge_of record_of size_of next printed ended line_from line_of of_int to_unsigned to_signed eight ceil second_round medium to_five to_nine rem_pio2 turned_sines sines sines_or_zeros acos_far acos_near acos quotient_c chords_c clamped per_turn_c limited_c count_c up_to radius_vector_c turned_c at_c cut_c inner_c inners_due inner_points_due fails passing neutral_test chord_test derivatives_c wave_within at_due own_c lesser_c intersection_c z_c pipe_c height_c turn_within meet_within meet_height_c meet_c v_c trace_within v_due hypotenuse.greater hypotenuse.lesser hypotenuse.hypot_ordered hypot development_within runs.traced_c runs.untraced runs.kind_c runs.curve_c run_points.straight_c run_points.at_c distance_c run_boxes.ends run_boxes.arc_c run_boxes.box_c steep_c off_c wave_line_c polyline_c arc_within followed_within is_traced both run_c pieces.piece_within pieces.tests pieces.at_due pieces.uv_box_due pieces.polyline_due
+unfolding cases add sub mul div neg lt le eq is_nan of_bits to_bits first is_finite nine within settled fabs signed choose sqrt reduced atan is_one ratio_angle angle atan2 negative least greatest within2 within3 plus_c minus_c times_c neg_c cross_c dot_c lesser greater widened widened_by numbers free box_call length_c across_c ahead_c back_c apart_c turn_c turn_due sweep_from_c sweep_c side_c taken_c both_c extremes_c points_c circle_within ends_within chord_within sweep_due extend_due reversed_c reversed_due in_bytes number point arc_record signed_whole thousandths spelled digits numeral bytes spaced corner empty_line refused_line box_line low_first number_at point_at tagged head_of kind_of edge_of record_of size_of next ended line_from line_of of_int to_unsigned to_signed eight ceil second_round medium to_five to_nine rem_pio2 turned_sines sines sines_or_zeros acos_far acos_near acos quotient_c chords_c clamped per_turn_c limited_c count_c up_to radius_vector_c turned_c at_c cut_c inner_c inners_due inner_points_due fails passing neutral_test chord_test derivatives_c wave_within at_due own_c lesser_c intersection_c z_c pipe_c height_c turn_within meet_within meet_height_c meet_c v_c trace_within v_due hypotenuse.greater hypotenuse.lesser hypotenuse.hypot_ordered hypot development_within runs.traced_c runs.untraced runs.kind_c runs.curve_c run_points.straight_c run_points.at_c distance_c run_boxes.ends run_boxes.arc_c run_boxes.box_c steep_c off_c wave_line_c polyline_c arc_within followed_within is_traced both run_c pieces.piece_within pieces.tests pieces.at_due pieces.uv_box_due pieces.polyline_due
 all_hold = (refl, (refl, (refl, (refl, (refl, (refl, (refl, (refl, (refl, (refl, (refl, (refl, (refl, (refl, (refl, (refl, (refl, (refl, (refl, tt)))))))))))))))))))

@@ -1,21 +1,20 @@
-use mathlib.Core.Path.{refl}
-use native.Mathlib.Omega.{arith}
+use Rattle.std.proofs.Common.{arith, refl}
 use Rattle.answer_lines.specs.Lines.{spelt}
 use Rattle.answer_lines.specs.Laws.{spelt_more, spelt_fits, spelt_all, digit_small}
 use Rattle.answer_lines.proofs.hex.Goals as goal
 
 pub loop-i-init : goal.loop-i-init
 unfolding spelt
-loop-i-init c = (omega arith, refl)
+loop-i-init c = refl
 
 pub overflow_mul-n : goal.overflow_mul-n
-overflow_mul-n c = omega (arith, spelt_fits _ _ _ _ c.loop-i.invariant.1 c.loop-i-test.true)
+overflow_mul-n c = omega (arith, spelt_fits _ _ _ _ c.loop-i.invariant c.loop-i-test.true)
 
 pub overflow_add-n : goal.overflow_add-n
-overflow_add-n c = omega (arith, spelt_fits _ _ _ _ c.loop-i.invariant.1 c.loop-i-test.true, digit_small _ _ c.digit.ensures)
+overflow_add-n c = omega (arith, spelt_fits _ _ _ _ c.loop-i.invariant c.loop-i-test.true, digit_small _ _ c.digit.ensures)
 
 pub loop-i-preserved : goal.loop-i-preserved
-loop-i-preserved c = (omega arith, simp (c.digit.ensures, c.loop-i.invariant.1) (spelt_more _ _ _ _))
+loop-i-preserved c = simp (c.digit.ensures, c.loop-i.invariant) (spelt_more _ _ _ _)
 
 pub returns : goal.returns
-returns c = spelt_all _ _ _ _ c.loop-i.invariant.1 c.loop-i.invariant.0 c.loop-i-test.false
+returns c = spelt_all _ _ _ _ c.loop-i.invariant c.loop-i.auto.i-end c.loop-i-test.false

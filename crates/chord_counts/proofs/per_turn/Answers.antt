@@ -1,12 +1,11 @@
-use Rattle.std.proofs.Common.{sym}
 use Rattle.chord_counts.specs.Chords.{per_turn_due}
-use Rattle.checked.specs.TestsLaws.{passing_none, passing_some}
+use Rattle.checked.specs.ToldLaws.{fails_by, passes}
 use Rattle.chord_counts.proofs.per_turn.Goals as goal
 
-pub returns-then-t-eq0 : goal.returns-then-t-eq0
+pub returns-in_err-require_drawing : goal.returns-in_err-require_drawing
 unfolding per_turn_due
-returns-then-t-eq0 c = simp (c.settle.ensures, c.per_turn.ensures.refusal, c.per_turn.ensures.value, c.if-t-eq0.true, passing_none, ← c.earlier-t.ensures, ← c.tried_chord.ensures, ← c.fails-t.ensures, ← c.are_within.ensures)
+returns-in_err-require_drawing c = fails_by _ _ _ _ c.from_residual.ensures (simp (← c.are_within.ensures) c.in_err-require_drawing.ensures)
 
-pub returns-else-t-eq0 : goal.returns-else-t-eq0
+pub returns : goal.returns
 unfolding per_turn_due
-returns-else-t-eq0 c = simp (← c.earlier-t.ensures, ← c.tried_chord.ensures, ← c.fails-t.ensures, ← c.are_within.ensures) (sym (passing_some _ _ c.if-t-eq0.false))
+returns c = passes _ _ _ (simp (← c.are_within.ensures) c.in_ok-require_drawing.ensures) c.per_turn.ensures

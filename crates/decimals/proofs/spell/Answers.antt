@@ -37,6 +37,7 @@ returns c =
     let l = c.loop-rest in
     let none : l.rest ≡ 0 = omega arith in
     record {
-      out_after = sym (ap (λ r. r ++ drop l.i l.out) (ahead_zero l.i l.rest none)) ∙ l.invariant.3;
-      upper_bound = (omega arith, omega arith);
+      text = sym (ap (λ r. r ++ drop l.i l.out) (ahead_zero l.i l.rest none)) ∙ l.invariant.3;
+      start = omega arith;
+      room = omega arith;
     }

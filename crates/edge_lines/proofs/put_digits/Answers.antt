@@ -12,6 +12,7 @@ returns c =
     let d = c.digits-from in
     let a = c.before.before.before.before.before.before.before.before.before.args in
     record {
-      upper_bound = (omega arith, omega arith);
-      out_after = p.ensures.out_after ∙ ap (λ l. l ++ drop a.at a.out.now) (to_end d.new.out (digits a.n) d.result 20 d.ensures.upper_bound.1 d.ensures.out_after);
+      before = omega arith;
+      most = omega arith;
+      line = p.ensures.line ∙ ap (λ l. l ++ drop a.at a.out.now) (to_end d.new.out (digits a.n) d.result 20 d.ensures.room d.ensures.text);
     }

@@ -8,6 +8,6 @@ pub returns : goal.returns
 returns c =
     let p = c.put in
     record {
-      upper_bound = omega (arith, p.ensures.text_value);
-      out_after = p.ensures.out_after ∙ empty_is c.args.out.now 160 c.requires;
+      within = omega (arith, p.ensures.start);
+      line = p.ensures.line ∙ empty_is c.args.out.now 160 c.requires;
     }

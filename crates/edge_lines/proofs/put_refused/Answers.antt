@@ -2,6 +2,8 @@
 use mathlib.Core.Path.{◌∙◌, ap}
 use mathlib.Core.List.{◌++◌}
 use native.Mathlib.Omega.{arith}
+use lib.ListN.{drop}
+use Rattle.checked.specs.Told.{number}
 use Rattle.decimals.specs.Digits.{digits}
 use Rattle.edge_lines.specs.Lines.{bytes}
 use Rattle.edge_lines.proofs.Before.{newline, refused_is}
@@ -12,12 +14,13 @@ unfolding bytes
 returns c =
     let first = c.put in
     let a = c.args in record {
-      upper_bound = omega (arith, first.ensures.text_value, c.put_digits-numbered.ensures.upper_bound, c.put-word.ensures.text_value, c.put_digits-counted.ensures.upper_bound, c.put-end.ensures.text_value);
-      out_after = first.ensures.out_after
+      within = omega (arith, first.ensures.start, c.put_digits-numbered.ensures.before, c.put-word.ensures.start, c.put_digits-counted.ensures.before, c.put-end.ensures.start);
+      line = first.ensures.line
           ∙ ap (λ t. bytes "refused " ++ t)
-          (c.put_digits-numbered.ensures.out_after
-          ∙ ap (λ t. digits a.number ++ t)
-          (c.put-word.ensures.out_after
-          ∙ ap (λ t. bytes " record " ++ t) (c.put_digits-counted.ensures.out_after ∙ ap (λ t. digits a.k ++ t) (c.put-end.ensures.out_after ∙ newline a.out.now 160 c.requires))))
-          ∙ refused_is a.number a.k;
+          (c.put_digits-numbered.ensures.line
+          ∙ ap (λ n. digits n ++ drop c.put-word.result c.put-word.new.out) c.number.ensures
+          ∙ ap (λ t. digits (number a.refusal) ++ t)
+          (c.put-word.ensures.line
+          ∙ ap (λ t. bytes " record " ++ t) (c.put_digits-counted.ensures.line ∙ ap (λ t. digits a.k ++ t) (c.put-end.ensures.line ∙ newline a.out.now 160 c.requires))))
+          ∙ refused_is (number a.refusal) a.k;
     }

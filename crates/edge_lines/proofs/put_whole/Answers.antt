@@ -3,23 +3,34 @@ use mathlib.Core.Path.{◌∙◌, ap}
 use mathlib.Core.List.{◌∷◌}
 use native.Mathlib.Omega.{arith}
 use lib.ListN.{drop}
+use Rattle.std.proofs.Math.Facts.{to_z-of_z}
 use Rattle.edge_lines.proofs.Before.{with_minus, without}
 use Rattle.edge_lines.proofs.put_whole.Goals as goal
 
-pub returns-then-is_negative-size : goal.returns-then-is_negative-size
-returns-then-is_negative-size c =
+pub returns-then-is_negative : goal.returns-then-is_negative
+returns-then-is_negative c =
     let d = c.put_digits-digits in
     let a = c.args in
-    let p = c.put in record {
-      upper_bound = (omega (arith, p.ensures.text_value), omega (arith, p.ensures.text_value));
-      out_after = p.ensures.out_after ∙ ap (λ l. 32 ∷ 45 ∷ l) d.ensures.out_after ∙ with_minus a.size (drop a.at a.out.now) a.is_negative c.if-is_negative-size.true;
+    let p = c.put in
+    let n = to_z-of_z c.ranges.n in
+    record {
+      before = omega (arith, p.ensures.start, d.ensures.before);
+      most = omega (arith, p.ensures.start, d.ensures.most);
+      line = p.ensures.line
+          ∙ ap (λ l. 32 ∷ 45 ∷ l) (rw (c.unsigned_abs.ensures.value, n) at d.ensures.line)
+          ∙ with_minus a.n (drop a.at a.out.now) (rw n at c.if-is_negative.true);
     }
 
-pub returns-else-is_negative-size : goal.returns-else-is_negative-size
-returns-else-is_negative-size c =
+pub returns-else-is_negative : goal.returns-else-is_negative
+returns-else-is_negative c =
     let d = c.put_digits-digits in
     let a = c.args in
-    let p = c.put-else-is_negative-size in record {
-      upper_bound = (omega (arith, p.ensures.text_value), omega (arith, p.ensures.text_value));
-      out_after = p.ensures.out_after ∙ ap (λ l. 32 ∷ l) d.ensures.out_after ∙ without a.size (drop a.at a.out.now) a.is_negative c.if-is_negative-size.false;
+    let p = c.put-else-is_negative in
+    let n = to_z-of_z c.ranges.n in
+    record {
+      before = omega (arith, p.ensures.start, d.ensures.before);
+      most = omega (arith, p.ensures.start, d.ensures.most);
+      line = p.ensures.line
+          ∙ ap (λ l. 32 ∷ l) (rw (c.unsigned_abs.ensures.value, n) at d.ensures.line)
+          ∙ without a.n (drop a.at a.out.now) (rw n at c.if-is_negative.false);
     }

@@ -3,14 +3,8 @@ use Rattle.face_paths.proofs.place_at.Goals as goal
 
 pub returns-in-Arc : goal.returns-in-Arc
 unfolding face_path_at
-returns-in-Arc c = record {
-  refusal = simp (c.arc_path_at.ensures.refusal, c.in-Arc.is);
-  value = simp (c.arc_path_at.ensures.value, c.in-Arc.is);
-}
+returns-in-Arc c = simp (c.arc_path_at.ensures, c.in-Arc.is)
 
 pub returns-in-Piece : goal.returns-in-Piece
 unfolding face_path_at
-returns-in-Piece c = record {
-  refusal = simp (c.piece_path_at.ensures.refusal, c.in-Piece.is);
-  value = simp (c.piece_path_at.ensures.value, c.in-Piece.is);
-}
+returns-in-Piece c = simp (c.piece_path_at.ensures, c.in-Piece.is)

@@ -7,10 +7,10 @@ use Rattle.piece_arrays.proofs.put_centre.Goals as goal
 pub bounds-out : goal.bounds-out
 bounds-out c = simp length-set (omega arith)
 
-pub returns-in-Without : goal.returns-in-Without
+pub returns-in-None : goal.returns-in-None
 unfolding over of_centre
-returns-in-Without c = simp c.in-Without.is
+returns-in-None c = simp c.in-None.is
 
-pub returns-in-With : goal.returns-in-With
+pub returns-in-Some : goal.returns-in-Some
 unfolding over of_centre
-returns-in-With c = simp c.in-With.is
+returns-in-Some c = simp c.in-Some.is

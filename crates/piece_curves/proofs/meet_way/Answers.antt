@@ -1,10 +1,14 @@
 use Rattle.piece_curves.specs.PieceCurves.{meet_kind_c}
-use Rattle.checked.specs.Laws.{rules as checked_rules}
+use Rattle.checked.specs.ToldLaws.{stops, gives, none_met, value_is, met_is, rules as told_rules}
 use Rattle.piece_curves.proofs.meet_way.Goals as goal
 
+pub returns-in_err-pipe : goal.returns-in_err-pipe
+returns-in_err-pipe c =
+    stops _ _ _ c.from_residual.ensures
+    (unfold meet_kind_c in simp (met_is _ _ c.in_err-pipe.ensures, told_rules))
+
 pub returns : goal.returns
-unfolding meet_kind_c
-returns c = record {
-  refusal = simp (c.pipe-x.ensures.refusal, c.pipe-x.ensures.value, checked_rules);
-  value = simp c.pipe-x.ensures.value;
-}
+returns c =
+    gives _ _
+    (unfold meet_kind_c in simp (value_is _ _ c.in_ok-pipe.ensures, none_met _ _ c.in_ok-pipe.ensures, told_rules))
+    (unfold meet_kind_c in simp (value_is _ _ c.in_ok-pipe.ensures))

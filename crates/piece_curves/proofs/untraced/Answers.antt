@@ -1,10 +1,10 @@
 use Rattle.piece_curves.specs.PieceCurves.{untraced}
 use Rattle.piece_curves.proofs.untraced.Goals as goal
 
-pub returns-in-Without : goal.returns-in-Without
+pub returns-in-None : goal.returns-in-None
 unfolding untraced
-returns-in-Without c = simp c.in-Without.is
+returns-in-None c = simp c.in-None.is
 
-pub returns-in-With : goal.returns-in-With
+pub returns-in-Some : goal.returns-in-Some
 unfolding untraced
-returns-in-With c = simp c.in-With.is
+returns-in-Some c = simp c.in-Some.is

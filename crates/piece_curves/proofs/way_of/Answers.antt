@@ -1,16 +1,11 @@
 use Rattle.piece_curves.specs.PieceCurves.{kind_c}
+use Rattle.checked.specs.ToldLaws.{rules as told_rules}
 use Rattle.piece_curves.proofs.way_of.Goals as goal
 
-pub returns-in-Without : goal.returns-in-Without
+pub returns-in-None : goal.returns-in-None
 unfolding kind_c
-returns-in-Without c = record {
-  refusal = simp (c.untraced.ensures, c.in-Without.is);
-  value = simp (c.untraced.ensures, c.in-Without.is);
-}
+returns-in-None c = simp (c.untraced.ensures, c.in-None.is, told_rules)
 
-pub returns-in-With : goal.returns-in-With
+pub returns-in-Some : goal.returns-in-Some
 unfolding kind_c
-returns-in-With c = record {
-  refusal = simp (c.traced.ensures.refusal, c.traced.ensures.value, c.in-With.is);
-  value = simp (c.traced.ensures.value, c.in-With.is);
-}
+returns-in-Some c = simp (c.traced.ensures, c.in-Some.is)

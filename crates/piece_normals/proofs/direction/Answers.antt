@@ -1,16 +1,10 @@
 use Rattle.piece_normals.specs.Normals.{direction_c}
 use Rattle.piece_normals.proofs.direction.Goals as goal
 
-pub returns-in-Without : goal.returns-in-Without
+pub returns-in-None : goal.returns-in-None
 unfolding direction_c
-returns-in-Without c = record {
-  refusal = simp (c.without_arc.ensures.refusal, c.in-Without.is);
-  value = simp (c.without_arc.ensures.value, c.in-Without.is);
-}
+returns-in-None c = simp (c.without_arc.ensures, c.in-None.is)
 
-pub returns-in-With : goal.returns-in-With
+pub returns-in-Some : goal.returns-in-Some
 unfolding direction_c
-returns-in-With c = record {
-  refusal = simp (c.arc_direction.ensures.refusal, c.in-With.is);
-  value = simp (c.arc_direction.ensures.value, c.in-With.is);
-}
+returns-in-Some c = simp (c.arc_direction.ensures, c.in-Some.is)

@@ -1,10 +1,30 @@
 use Rattle.piece_normals.specs.Normals.{hole_c}
-use Rattle.checked.specs.Laws.{rules as checked_rules}
+use Rattle.checked.specs.ToldLaws.{stops, gives, none_met, value_is, met_is, rules as told_rules}
 use Rattle.piece_normals.proofs.hole_direction.Goals as goal
 
+pub returns-in_err-g : goal.returns-in_err-g
+returns-in_err-g c =
+    let g = c.in_err-g.ensures in
+    stops _ _ _ c.from_residual.ensures (unfold hole_c in simp (met_is _ _ g, told_rules))
+
+pub returns-in_err-pipe : goal.returns-in_err-pipe
+returns-in_err-pipe c =
+    let g = c.in_ok-g.ensures in
+    let pipe = c.in_err-pipe.ensures in
+    stops _ _ _ c.from_residual-in_err-pipe.ensures (unfold hole_c in simp (none_met _ _ g, met_is _ _ pipe, told_rules))
+
+pub returns-in_err-s : goal.returns-in_err-s
+returns-in_err-s c =
+    let g = c.in_ok-g.ensures in
+    let pipe = c.in_ok-pipe.ensures in
+    let s = simp (← value_is _ _ pipe) at c.in_err-s.ensures in
+    stops _ _ _ c.from_residual-in_err-s.ensures (unfold hole_c in simp (none_met _ _ g, none_met _ _ pipe, met_is _ _ s, told_rules))
+
 pub returns : goal.returns
-unfolding hole_c
-returns c = record {
-  refusal = simp (c.earlier-2.ensures, c.earlier.ensures, c.side-s.ensures.refusal, c.pipe-x.ensures.refusal, c.pipe-x.ensures.value, c.gradient-g.ensures.refusal, c.gradient-g.ensures.value, checked_rules);
-  value = simp (c.facing.ensures, c.side-s.ensures.value, c.pipe-x.ensures.value, c.gradient-g.ensures.value);
-}
+returns c =
+    let g = c.in_ok-g.ensures in
+    let pipe = c.in_ok-pipe.ensures in
+    let s = simp (← value_is _ _ pipe) at c.in_ok-s.ensures in
+    gives _ _
+    (unfold hole_c in simp (none_met _ _ g, none_met _ _ pipe, none_met _ _ s, told_rules))
+    (unfold hole_c in simp (c.facing.ensures, ← value_is _ _ s, ← value_is _ _ pipe, ← value_is _ _ g))

@@ -1,14 +1,13 @@
-use Rattle.revolutions.specs.Revolutions.{add_due, tests, path_neutral, path_single, lies_on}
-use Rattle.revolutions.specs.Laws.{arc_is}
-use Rattle.checked.specs.Laws.{first_zero}
-use Rattle.checked.specs.TestsLaws.{passing_none, passing_some, fails_none}
-use mathlib.Core.Path.{sym}
+use Rattle.checked.specs.TestsLaws.{passing_or}
+use Rattle.checked.specs.ToldLaws.{fails_by, passes}
+use Rattle.revolutions.specs.Laws.{arc_answer, arc_is}
 use Rattle.revolutions.proofs.add_arc.Goals as goal
 
-pub returns-then-t-eq0 : goal.returns-then-t-eq0
-unfolding add_due tests path_neutral path_single lies_on
-returns-then-t-eq0 c = simp (c.settle.ensures, c.with_arc.ensures.refusal, c.with_arc.ensures.value, c.if-t-eq0.true, passing_none, ← c.earlier-t.ensures, ← c.fails.ensures, ← c.is_finite.ensures, ← c.fails-t.ensures, ← c.arc_within.ensures, arc_is, fails_none, first_zero)
+pub returns-in_err-require : goal.returns-in_err-require
+returns-in_err-require c = simp (arc_answer, arc_is, passing_or) (fails_by _ _ _ _ c.from_residual.ensures (simp c.arc_within.ensures at c.in_err-require.ensures))
 
-pub returns-else-t-eq0 : goal.returns-else-t-eq0
-unfolding add_due tests path_neutral path_single lies_on
-returns-else-t-eq0 c = simp (fails_none, first_zero, ← c.earlier-t.ensures, ← c.fails.ensures, ← c.is_finite.ensures, ← c.fails-t.ensures, ← c.arc_within.ensures) (sym (passing_some _ _ c.if-t-eq0.false))
+pub returns-in_err-require-2 : goal.returns-in_err-require-2
+returns-in_err-require-2 c = simp (arc_answer, arc_is, passing_or) (passes _ _ _ (simp c.arc_within.ensures at c.in_ok-require.ensures) (fails_by _ _ _ _ c.from_residual-in_err-require-2.ensures (simp c.is_finite.ensures at c.in_err-require-2.ensures)))
+
+pub returns : goal.returns
+returns c = simp (arc_answer, arc_is, passing_or) (passes _ _ _ (simp c.arc_within.ensures at c.in_ok-require.ensures) (passes _ _ _ (simp c.is_finite.ensures at c.in_ok-require-2.ensures) c.with_arc.ensures))

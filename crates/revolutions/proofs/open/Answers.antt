@@ -1,12 +1,12 @@
+use mathlib.Core.Path.{refl}
+use Rattle.checked.specs.ToldLaws.{fails_by, passes}
 use Rattle.revolutions.specs.Revolutions.{open_due}
-use Rattle.checked.specs.TestsLaws.{passing_none, passing_some}
-use mathlib.Core.Path.{sym}
 use Rattle.revolutions.proofs.open.Goals as goal
 
-pub returns-then-t-eq0 : goal.returns-then-t-eq0
+pub returns-in_err-require : goal.returns-in_err-require
 unfolding open_due
-returns-then-t-eq0 c = simp (c.if-t-eq0.true, passing_none, ← c.fails-t.ensures, ← c.face_within.ensures)
+returns-in_err-require c = fails_by _ _ _ _ c.from_residual.ensures (simp c.face_within.ensures at c.in_err-require.ensures)
 
-pub returns-else-t-eq0 : goal.returns-else-t-eq0
+pub returns : goal.returns
 unfolding open_due
-returns-else-t-eq0 c = simp (← c.fails-t.ensures, ← c.face_within.ensures) (sym (passing_some _ _ c.if-t-eq0.false))
+returns c = passes _ _ _ (simp c.face_within.ensures at c.in_ok-require.ensures) refl

@@ -1,9 +1,15 @@
-use Rattle.checked.specs.Laws.{first_assoc}
+use mathlib.Core.Path.{◌∙◌}
+use Rattle.std.specs.Prelude.{◌≡◌}
+use Rattle.checked.specs.ToldLaws.{none_met, value_is, met_is, follows, stops, rules as told_rules}
+use Rattle.walls.specs.Walls.{node_c}
 use Rattle.walls.specs.Laws.{station_refusal, station_value}
 use Rattle.walls.proofs.node.Goals as goal
 
+pub returns-in_err-away : goal.returns-in_err-away
+returns-in_err-away c = stops _ _ _ c.from_residual.ensures (station_refusal _ _ _ _ _ _ ∙ rw (met_is _ _ c.in_err-away.ensures) (simp told_rules))
+
 pub returns : goal.returns
-returns c = record {
-  refusal = simp (c.noted.ensures, c.earlier.ensures, c.radii-after.ensures, c.radial-w.ensures.refusal, c.radial-w.ensures.value, station_refusal, station_value, first_assoc);
-  value = simp (c.radii-after.ensures, c.radial-w.ensures.value, station_value);
-}
+returns c =
+    let away = c.in_ok-away.ensures in
+    let after : (node_c c.args.v c.args.p c.args.d c.args.h c.args.wt c.args.s).value ≡ c.radii-after.result = simp (station_value, c.radii-after.ensures, ← value_is _ _ away) in
+    follows _ _ _ _ c.finite.ensures (simp (station_refusal, none_met _ _ away, after, told_rules)) after

@@ -1,14 +1,21 @@
-use Rattle.arcs.specs.Entries.{extend_due}
-use Rattle.checked.specs.Laws.{rules as checked_rules}
+use Rattle.checked.specs.TestsLaws.{passing_or}
+use Rattle.checked.specs.ToldLaws.{fails_by, passes}
 use Rattle.boxes.proofs.Laws.{call_is}
-use Rattle.checked.specs.TestsLaws.{passing_none, passing_some}
-use mathlib.Core.Path.{sym}
+use Rattle.arcs.specs.Entries.{extend_due}
 use Rattle.arcs.proofs.Arc.extended.Goals as goal
 
-pub returns-then-n-eq0 : goal.returns-then-n-eq0
+pub returns-in_err-require : goal.returns-in_err-require
 unfolding extend_due
-returns-then-n-eq0 c = simp (c.settle.ensures, c.extended.ensures.refusal, c.extended.ensures.value, c.if-n-eq0.true, passing_none, ← c.earlier-n.ensures, ← c.fails.ensures, ← c.is_free.ensures, ← c.fails-n.ensures, ← c.ends_within.ensures, call_is, checked_rules)
+returns-in_err-require c = simp (call_is, passing_or) (fails_by _ _ _ _ c.from_residual.ensures (simp (← c.ends_within.ensures) c.in_err-require.ensures))
 
-pub returns-else-n-eq0 : goal.returns-else-n-eq0
+pub returns-in_err-require-2 : goal.returns-in_err-require-2
 unfolding extend_due
-returns-else-n-eq0 c = simp (call_is, ← c.earlier-n.ensures, ← c.fails.ensures, ← c.is_free.ensures, ← c.fails-n.ensures, ← c.ends_within.ensures) (sym (passing_some _ _ c.if-n-eq0.false))
+returns-in_err-require-2 c =
+    simp (call_is, passing_or)
+    (passes _ _ _ (simp (← c.ends_within.ensures) c.in_ok-require.ensures) (fails_by _ _ _ _ c.from_residual-in_err-require-2.ensures (simp (← c.is_free.ensures) c.in_err-require-2.ensures)))
+
+pub returns : goal.returns
+unfolding extend_due
+returns c =
+    simp (call_is, passing_or)
+    (passes _ _ _ (simp (← c.ends_within.ensures) c.in_ok-require.ensures) (passes _ _ _ (simp (← c.is_free.ensures) c.in_ok-require-2.ensures) c.extended.ensures))

@@ -1,12 +1,11 @@
 use Rattle.arcs.specs.Entries.{reversed_due}
-use Rattle.checked.specs.TestsLaws.{passing_none, passing_some}
-use mathlib.Core.Path.{sym}
+use Rattle.checked.specs.ToldLaws.{fails_by, passes}
 use Rattle.arcs.proofs.Arc.reversed.Goals as goal
 
-pub returns-then-n-eq0 : goal.returns-then-n-eq0
+pub returns-in_err-require : goal.returns-in_err-require
 unfolding reversed_due
-returns-then-n-eq0 c = simp (c.settle.ensures, c.reversed.ensures.refusal, c.reversed.ensures.value, c.if-n-eq0.true, passing_none, ← c.fails-n.ensures, ← c.circle_within.ensures)
+returns-in_err-require c = fails_by _ _ _ _ c.from_residual.ensures (simp (← c.circle_within.ensures) c.in_err-require.ensures)
 
-pub returns-else-n-eq0 : goal.returns-else-n-eq0
+pub returns : goal.returns
 unfolding reversed_due
-returns-else-n-eq0 c = simp (← c.fails-n.ensures, ← c.circle_within.ensures) (sym (passing_some _ _ c.if-n-eq0.false))
+returns c = passes _ _ _ (simp (← c.circle_within.ensures) c.in_ok-require.ensures) c.reversed.ensures

@@ -1,27 +1,18 @@
-use mathlib.Core.Path.{◌≡◌, sym, ◌∙◌}
-use Rattle.checked.specs.Laws.{settled_none, settled_some}
 use Rattle.checked.specs.TestsLaws.{passing_none}
+use Rattle.checked.specs.ToldLaws.{passing_number}
 use Rattle.rows.specs.Rows.{point}
-use Rattle.rows.specs.Laws.{drawn_refused, drawn_failed}
-use Rattle.arcs.specs.Chords.{cut_c}
+use Rattle.rows.specs.Laws.{drawn_stops}
 use Rattle.arcs.specs.Entries.{inner_points_due}
 use Rattle.arcs.proofs.Arc.write_inner_points.Goals as goal
 
-pub returns-then-r-eq0 : goal.returns-then-r-eq0
+pub returns-in_err-require_drawing : goal.returns-in_err-require_drawing
 unfolding inner_points_due
-returns-then-r-eq0 c =
-    let start = c.args in
-    let none : (cut_c start.self.center start.self.axis start.self.radius start.from start.to start.chord).refusal ≡ 0 = sym c.cut_up-c.ensures.refusal ∙ c.if-r-eq0.true in
-    simp (c.if-n-eq0.true, passing_none, ← c.earlier-n.ensures, ← c.tried_chord.ensures, ← c.fails-n.ensures, ← c.chord_within.ensures, none, settled_none)
-    (simp c.cut_up-c.ensures.value at c.write_points.ensures)
+returns-in_err-require_drawing c = drawn_stops point _ _ _ _ c.from_residual.ensures (simp (← c.chord_within.ensures, ← c.in_err-require_drawing.ensures, passing_number))
 
-pub returns-else-r-eq0 : goal.returns-else-r-eq0
+pub returns-in_err-cut : goal.returns-in_err-cut
 unfolding inner_points_due
-returns-else-r-eq0 c =
-    let start = c.args in
-    let due = settled_some (cut_c start.self.center start.self.axis start.self.radius start.from start.to start.chord).refusal (cut_c start.self.center start.self.axis start.self.radius start.from start.to start.chord).value (λ e. c.if-r-eq0.false (c.cut_up-c.ensures.refusal ∙ e)) in
-    simp (c.if-n-eq0.true, passing_none, ← c.earlier-n.ensures, ← c.tried_chord.ensures, ← c.fails-n.ensures, ← c.chord_within.ensures, due, c.cut_up-c.ensures.refusal) (drawn_refused point _ _)
+returns-in_err-cut c = drawn_stops point _ _ _ _ c.from_residual-in_err-cut.ensures (simp (← c.chord_within.ensures, ← c.in_ok-require_drawing.ensures, passing_none, ← c.in_err-cut.ensures))
 
-pub returns-else-n-eq0 : goal.returns-else-n-eq0
+pub returns : goal.returns
 unfolding inner_points_due
-returns-else-n-eq0 c = simp (← c.earlier-n.ensures, ← c.tried_chord.ensures, ← c.fails-n.ensures, ← c.chord_within.ensures) (drawn_failed point _ _ _ c.if-n-eq0.false)
+returns c = simp (← c.chord_within.ensures, ← c.in_ok-require_drawing.ensures, passing_none, ← c.in_ok-cut.ensures) c.write_points.ensures

@@ -1,12 +1,18 @@
+use Rattle.std.specs.Prelude.{refl}
+use Rattle.checked.specs.ToldLaws.{none_met, value_is, met_is, follows, stops, rules as told_rules}
 use Rattle.arcs.specs.Points.{radius_vector_c}
-use Rattle.checked.specs.Laws.{zero_first}
 use Rattle.arcs.specs.PointsLaws.{spoke_refusal}
-use mathlib.Core.Path.{sym, ◌∙◌}
 use Rattle.arcs.proofs.points.radius_vector.Goals as goal
 
+pub returns-in_err-l : goal.returns-in_err-l
+returns-in_err-l c =
+    let l = simp (c.length.ensures, c.across-a.ensures, c.minus.ensures) at c.in_err-l.ensures in
+    stops _ _ _ c.from_residual.ensures (simp (spoke_refusal, met_is _ _ l, told_rules))
+
 pub returns : goal.returns
-unfolding radius_vector_c
-returns c = record {
-  refusal = (simp (c.noted.ensures, c.note.ensures, c.times-d.ensures, c.length-l.ensures, c.across-a.ensures, c.minus.ensures, zero_first)) ∙ sym (spoke_refusal c.args.center c.args.axis c.args.radius c.args.from);
-  value = simp (c.times-d.ensures, c.length-l.ensures, c.across-a.ensures, c.minus.ensures);
-}
+returns c =
+    let l = simp (c.length.ensures, c.across-a.ensures, c.minus.ensures) at c.in_ok-l.ensures in
+    let d = simp (c.times.ensures, c.across-a.ensures, c.minus.ensures, ← value_is _ _ l) at c.finite3.ensures in
+    follows _ _ _ _ d
+    (simp (spoke_refusal, none_met _ _ l, told_rules) (unfold radius_vector_c in refl))
+    (unfold radius_vector_c in refl)

@@ -1,14 +1,28 @@
-use borrow.Author.Tests.{eq-eqb, ne_eqb}
+use Rattle.std.proofs.Common.{rules, sym, ◌∙◌}
+use Rattle.c_arrays.specs.Records.{known}
+use Rattle.c_shapes.specs.SurfaceRecords.{is_surface}
 use Rattle.c_shapes.proofs.surface_records.surface_of.Goals as goal
 
-pub returns-then-kind-eq0 : goal.returns-then-kind-eq0
-returns-then-kind-eq0 c = simp (c.plane_of.ensures, eq-eqb _ _ c.if-kind-eq0.true)
+pub returns-in-0 : goal.returns-in-0
+unfolding known is_surface
+returns-in-0 c = simp (c.in-0.is, c.plane_of.ensures)
 
-pub returns-then-kind-eq1 : goal.returns-then-kind-eq1
-returns-then-kind-eq1 c = simp (c.cylinder_of.ensures, eq-eqb _ _ c.if-kind-eq1.true, ne_eqb _ _ c.if-kind-eq0.false)
+pub returns-in-1 : goal.returns-in-1
+unfolding known is_surface
+returns-in-1 c = simp (c.in-1.is, c.cylinder_of.ensures)
 
-pub returns-then-kind-eq2 : goal.returns-then-kind-eq2
-returns-then-kind-eq2 c = simp (c.cone_at.ensures, eq-eqb _ _ c.if-kind-eq2.true, ne_eqb _ _ c.if-kind-eq1.false, ne_eqb _ _ c.if-kind-eq0.false)
+pub returns-in-2 : goal.returns-in-2
+unfolding known is_surface
+returns-in-2 c = simp (c.in-2.is, c.cone_at.ensures)
 
-pub returns-else-kind-eq2 : goal.returns-else-kind-eq2
-returns-else-kind-eq2 c = simp (c.piece_of.ensures, ne_eqb _ _ c.if-kind-eq2.false, ne_eqb _ _ c.if-kind-eq1.false, ne_eqb _ _ c.if-kind-eq0.false)
+pub returns-in-3 : goal.returns-in-3
+unfolding known is_surface
+returns-in-3 c = simp (c.in-3.is, sym c.is_piece.ensures ∙ c.if-is_piece.true, c.piece_of.ensures)
+
+pub returns-in_default : goal.returns-in_default
+unfolding known is_surface
+returns-in_default c = simp (c.in-3.is, sym c.is_piece.ensures ∙ c.if-is_piece.false)
+
+pub returns-in_default-2 : goal.returns-in_default-2
+unfolding known is_surface
+returns-in_default-2 c = search rules

@@ -1,5 +1,7 @@
 use Rattle.std.proofs.Common.{arith}
 use lib.Ieee.{of_bits, neg}
+use Rattle.checked.specs.Checked.{settled}
+use Rattle.checked.specs.Laws.{settled_none}
 use Rattle.checked.specs.PatternLaws.{yes}
 use Rattle.chord_counts.specs.Laws.{none_left, at_most, fits_u64}
 use Rattle.chord_counts.specs.Counts.{limited_c}
@@ -17,21 +19,12 @@ overflow_cast-result c = omega (arith, c.truncating_f64_to_u64.ensures, at_most 
 
 pub returns-then-x : goal.returns-then-x
 unfolding limited_c
-returns-then-x c = record {
-  refusal = simp c.if-x-limit.true;
-  value = simp (c.truncating_f64_to_u64.ensures, c.if-x-limit.true);
-}
+returns-then-x c = simp (c.truncating_f64_to_u64.ensures, c.if-x-limit.true, settled_none)
 
 pub returns-else-x : goal.returns-else-x
 unfolding limited_c
-returns-else-x c = record {
-  refusal = simp c.if-x-limit.true;
-  value = simp (none_left _ c.if-x.false, c.if-x-limit.true);
-}
+returns-else-x c = simp (none_left _ c.if-x.false, c.if-x-limit.true, settled_none)
 
 pub returns-else-x-limit : goal.returns-else-x-limit
-unfolding limited_c
-returns-else-x-limit c = record {
-  refusal = simp c.if-x-limit.false;
-  value = simp c.if-x-limit.false;
-}
+unfolding limited_c settled
+returns-else-x-limit c = simp c.if-x-limit.false

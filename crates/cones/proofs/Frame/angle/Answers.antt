@@ -1,12 +1,11 @@
 use Rattle.cones.specs.Entries.{angle_due}
-use Rattle.checked.specs.TestsLaws.{passing_none, passing_some}
-use mathlib.Core.Path.{sym}
+use Rattle.checked.specs.ToldLaws.{fails_by, passes}
 use Rattle.cones.proofs.Frame.angle.Goals as goal
 
-pub returns-then-t-eq0 : goal.returns-then-t-eq0
+pub returns-in_err-require : goal.returns-in_err-require
 unfolding angle_due
-returns-then-t-eq0 c = simp (c.settle.ensures, c.angle.ensures.refusal, c.angle.ensures.value, c.if-t-eq0.true, passing_none, ← c.fails-t.ensures, ← c.is_within_with.ensures)
+returns-in_err-require c = fails_by _ _ _ _ c.from_residual.ensures (simp c.is_within_with.ensures at c.in_err-require.ensures)
 
-pub returns-else-t-eq0 : goal.returns-else-t-eq0
+pub returns : goal.returns
 unfolding angle_due
-returns-else-t-eq0 c = simp (← c.fails-t.ensures, ← c.is_within_with.ensures) (sym (passing_some _ _ c.if-t-eq0.false))
+returns c = passes _ _ _ (simp c.is_within_with.ensures at c.in_ok-require.ensures) c.angle.ensures

@@ -1,12 +1,14 @@
+use mathlib.Core.Path.{refl}
 use Rattle.cones.specs.Frames.{point_c}
-use Rattle.checked.specs.Laws.{first_assoc}
+use Rattle.checked.specs.ToldLaws.{stops, follows, none_met, value_is, met_is, rules as told_rules}
 use Rattle.cones.specs.Laws.{point_refusal}
-use mathlib.Core.Path.{sym, ◌∙◌}
 use Rattle.cones.proofs.formula.point.Goals as goal
 
+pub returns-in_err-s : goal.returns-in_err-s
+returns-in_err-s c = stops _ _ _ c.from_residual.ensures (simp (point_refusal, met_is _ _ c.in_err-s.ensures, told_rules))
+
 pub returns : goal.returns
-unfolding point_c
-returns c = record {
-  refusal = (simp (c.noted.ensures, c.plus-p.ensures, c.times-4.ensures, c.plus-2.ensures, c.times-3.ensures, c.times-2.ensures, c.plus.ensures, c.times.ensures, c.sincos-s.ensures.refusal, c.sincos-s.ensures.sin, c.sincos-s.ensures.cos, first_assoc)) ∙ sym (point_refusal c.args.f c.args.theta c.args.z c.args.r);
-  value = simp (c.plus-p.ensures, c.times-4.ensures, c.plus-2.ensures, c.times-3.ensures, c.times-2.ensures, c.plus.ensures, c.times.ensures, c.sincos-s.ensures.sin, c.sincos-s.ensures.cos);
-}
+returns c =
+    let s = c.in_ok-s.ensures in
+    let p = simp (c.times-4.ensures, c.plus-2.ensures, c.times-3.ensures, c.times-2.ensures, c.plus.ensures, c.times.ensures, ← value_is _ _ s) at c.plus-3.ensures in
+    follows _ _ _ _ c.finite3.ensures (simp (point_refusal, none_met _ _ s, p, told_rules) (unfold point_c in refl)) (unfold point_c in simp p)

@@ -1,12 +1,15 @@
 use Rattle.curves.specs.Entries.{moved_due}
-use Rattle.checked.specs.TestsLaws.{passing_none, passing_some}
-use mathlib.Core.Path.{sym}
+use Rattle.checked.specs.ToldLaws.{fails_by, passes, rules as told_rules}
 use Rattle.curves.proofs.Curve.moved.Goals as goal
 
-pub returns-then-n-eq0 : goal.returns-then-n-eq0
+pub returns-in_err-require : goal.returns-in_err-require
 unfolding moved_due
-returns-then-n-eq0 c = simp (c.settle.ensures, c.moved.ensures.refusal, c.moved.ensures.value, c.if-n-eq0.true, passing_none, ← c.earlier-n.ensures, ← c.tried.ensures, ← c.fails-n.ensures, ← c.is_within_rigid.ensures)
+returns-in_err-require c = fails_by _ _ _ _ c.from_residual.ensures (simp (← c.in_err-require.ensures, ← c.is_within_rigid.ensures, told_rules))
 
-pub returns-else-n-eq0 : goal.returns-else-n-eq0
+pub returns-in_err-tried : goal.returns-in_err-tried
 unfolding moved_due
-returns-else-n-eq0 c = simp (← c.earlier-n.ensures, ← c.tried.ensures, ← c.fails-n.ensures, ← c.is_within_rigid.ensures) (sym (passing_some _ _ c.if-n-eq0.false))
+returns-in_err-tried c = fails_by _ _ _ _ c.from_residual-in_err-tried.ensures (simp (← c.in_err-tried.ensures, ← c.in_ok-require.ensures, ← c.is_within_rigid.ensures, told_rules))
+
+pub returns : goal.returns
+unfolding moved_due
+returns c = passes _ _ _ (simp (← c.in_ok-tried.ensures, ← c.in_ok-require.ensures, ← c.is_within_rigid.ensures, told_rules)) c.moved.ensures

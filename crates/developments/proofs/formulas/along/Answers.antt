@@ -1,11 +1,14 @@
+use mathlib.Core.Path.{refl}
 use Rattle.developments.specs.Formulas.{along_c}
 use Rattle.developments.specs.Laws.{along_refusal}
-use mathlib.Core.Path.{sym, ◌∙◌}
+use Rattle.checked.specs.ToldLaws.{stops, follows, none_met, value_is, met_is, rules as told_rules}
 use Rattle.developments.proofs.formulas.along.Goals as goal
 
+pub returns-in_err-x : goal.returns-in_err-x
+returns-in_err-x c = stops _ _ _ c.from_residual.ensures (simp (along_refusal, met_is _ _ c.in_err-x.ensures, told_rules))
+
 pub returns : goal.returns
-unfolding along_c
-returns c = record {
-  refusal = (simp (c.noted.ensures, c.plus-v.ensures, c.times-2.ensures, c.times.ensures, c.cross.ensures, c.radial-x.ensures.refusal, c.radial-x.ensures.value)) ∙ sym (along_refusal c.args.axis c.args.start c.args.neutral c.args.p c.args.d c.args.r);
-  value = simp (c.plus-v.ensures, c.times-2.ensures, c.times.ensures, c.cross.ensures, c.radial-x.ensures.value);
-}
+returns c =
+    let x = c.in_ok-x.ensures in
+    let v = simp (c.times.ensures, c.times-2.ensures, c.cross.ensures, ← value_is _ _ x) at c.plus.ensures in
+    follows _ _ _ _ c.finite3.ensures (simp (along_refusal, none_met _ _ x, v, told_rules) (unfold along_c in refl)) (unfold along_c in simp v)

@@ -3,7 +3,4 @@ use Rattle.directions.proofs.formula.unit.Goals as goal
 
 pub returns : goal.returns
 unfolding unit_c
-returns c = record {
-  refusal = simp c.over_length.ensures.refusal;
-  value = simp c.over_length.ensures.value;
-}
+returns c = c.over_length.ensures

@@ -1,18 +1,19 @@
 -- `edge_file::Reading::edge` meets its contract. Assumes nothing.
-use mathlib.Core.Path.{sym, ◌∙◌, ap}
-use mathlib.Core.Bool.{true}
-use Rattle.boxes.specs.Boxes.{widened_due}
-use Rattle.edge_file.specs.declared.Status.TheVariants as status
-use Rattle.edge_file.specs.Steps.{called_on}
+use mathlib.Core.Path.{◌∙◌, ap}
+use Rattle.std.specs.Prelude.{Some}
+use Rattle.edge_file.specs.EdgeFile.{call_of}
+use Rattle.edge_file.specs.Steps.{Open, state, called_on}
+use Rattle.edge_file.proofs.Last.{widens}
 use Rattle.edge_file.proofs.Reading.edge.Goals as goal
 
-pub returns-in-Box : goal.returns-in-Box
-returns-in-Box c =
+pub returns-in-Ok : goal.returns-in-Ok
+returns-in-Ok c =
     let a = c.args in
-    ap (λ k. record { seen = record { has_edge = true; bounds = c.in-Box.bounds }; number = k; status = status.Open }) c.next_number.ensures
-    ∙ ap (called_on a.self) (sym (ap widened_due c.in-Box.is) ∙ c.extended.ensures)
+    ap (λ k. record { seen = Some c.in-Ok.bounds; number = k; stand = Open }) c.next_number.ensures
+    ∙ ap (called_on (state a.self)) (c.in-Ok.ensures ∙ ap (call_of a.e) (widens a.self.seen _ _ c.empty.ensures c.unwrap_or-bounds.ensures))
 
-pub returns-in-Refused : goal.returns-in-Refused
-returns-in-Refused c =
+pub returns-in-Err : goal.returns-in-Err
+returns-in-Err c =
     let a = c.args in
-    c.stopped.ensures ∙ ap (called_on a.self) (sym (ap widened_due c.in-Refused.is) ∙ c.extended.ensures)
+    c.stopped.ensures
+    ∙ ap (called_on (state a.self)) (c.in-Err.ensures ∙ ap (call_of a.e) (widens a.self.seen _ _ c.empty.ensures c.unwrap_or-bounds.ensures))

@@ -2,11 +2,12 @@
 -- how many bytes are left. Assumes nothing.
 use Prim.Native.Nat.{◌-◌}
 use lib.ListN.{length}
+use Rattle.edge_file.specs.Steps.{state}
 use Rattle.edge_file.proofs.Turns.{Taking}
 use Rattle.edge_file.proofs.Reading.feed.Given as goal
 
 abbrev pub invariant-loop-size : goal.invariant-loop-size
-invariant-loop-size l = Taking l.initial.reading l.bytes l.reading l.used l.size
+invariant-loop-size l = Taking (state l.initial.reading) l.bytes (state l.reading) l.used l.size
 
 abbrev pub decreases-loop-size : goal.decreases-loop-size
 decreases-loop-size l = length l.bytes - l.used

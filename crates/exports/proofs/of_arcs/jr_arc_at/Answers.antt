@@ -1,5 +1,4 @@
-use borrow.Author.Rules.{rules}
 use Rattle.exports.proofs.of_arcs.jr_arc_at.Goals as goal
 
 pub returns : goal.returns
-returns c = simp (c.at.ensures, c.vec3_of-u.ensures, c.arc_of-c.ensures) at c.store_vector.ensures
+returns c = simp (c.arc_of.ensures, c.at.ensures, c.vec3_of.ensures) at c.store.ensures

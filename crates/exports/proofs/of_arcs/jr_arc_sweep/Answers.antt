@@ -1,5 +1,4 @@
-use borrow.Author.Rules.{rules}
 use Rattle.exports.proofs.of_arcs.jr_arc_sweep.Goals as goal
 
 pub returns : goal.returns
-returns c = simp (c.sweep.ensures, c.vec3_of-v.ensures, c.vec3_of-u.ensures, c.arc_of-c.ensures) at c.store_number.ensures
+returns c = simp (c.arc_of.ensures, c.sweep.ensures, c.vec3_of.ensures, c.vec3_of-2.ensures) at c.store.ensures

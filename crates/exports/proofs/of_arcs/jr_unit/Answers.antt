@@ -1,5 +1,4 @@
-use borrow.Author.Rules.{rules}
 use Rattle.exports.proofs.of_arcs.jr_unit.Goals as goal
 
 pub returns : goal.returns
-returns c = simp (c.unit.ensures, c.vec3_of-u.ensures) at c.store_vector.ensures
+returns c = simp (c.unit.ensures, c.vec3_of.ensures) at c.store.ensures

@@ -1,16 +1,15 @@
-use mathlib.Core.Path.{sym, ◌∙◌}
-use borrow.Author.Rules.{rules}
-use Rattle.c_arrays.specs.Records.{after}
+use Rattle.c_arrays.specs.Laws.{known_none, known_some}
+use Rattle.c_arrays.specs.Records.{stored}
 use Rattle.exports.proofs.of_curves.jr_curve_extend_bounds.Goals as goal
 
-pub returns-then-is_curve : goal.returns-then-is_curve
-returns-then-is_curve c =
-    let s = simp (c.extended.ensures, c.bounds_of-old.ensures, c.vec3_of-v.ensures, c.vec3_of-u.ensures, c.curve_of-e.ensures) at c.store_bounds.ensures in
-    simp (sym c.is_curve.ensures ∙ c.if-is_curve.true) (record { number = s.number; corners = s.out })
+pub returns-in-Some : goal.returns-in-Some
+returns-in-Some c =
+    let read = known_some _ _ _ _ c.curve_of.ensures c.in-Some.is in
+    let s = simp (c.extended.ensures, c.vec3_of.ensures, c.vec3_of-in-Some.ensures, c.bounds_of.ensures) at c.store.ensures in
+    simp (read.0, read.1) (record { number = s.number; corners = s.out })
 
-pub returns-else-is_curve : goal.returns-else-is_curve
-unfolding after
-returns-else-is_curve c = record {
-  number = simp (sym c.is_curve.ensures ∙ c.if-is_curve.false);
-  corners = simp (sym c.is_curve.ensures ∙ c.if-is_curve.false);
-}
+pub returns-in-None : goal.returns-in-None
+unfolding stored
+returns-in-None c =
+    let unread = known_none _ _ _ c.curve_of.ensures c.in-None.is in
+    record { number = simp unread; corners = simp unread }

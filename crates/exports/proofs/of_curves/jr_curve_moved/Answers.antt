@@ -1,14 +1,14 @@
-use mathlib.Core.Path.{sym, ◌∙◌}
-use borrow.Author.Rules.{rules}
-use Rattle.c_shapes.specs.Stores.{stored}
+use Rattle.c_arrays.specs.Laws.{known_none, known_some}
+use Rattle.c_arrays.specs.Records.{stored}
 use Rattle.exports.proofs.of_curves.jr_curve_moved.Goals as goal
 
-pub returns-then-is_curve : goal.returns-then-is_curve
-returns-then-is_curve c = simp (sym c.is_curve.ensures ∙ c.if-is_curve.true) (simp (c.moved.ensures, c.rigid_of-g.ensures, c.curve_of-e.ensures) at c.store_moved.ensures)
+pub returns-in-Some : goal.returns-in-Some
+returns-in-Some c =
+    let read = known_some _ _ _ _ c.curve_of.ensures c.in-Some.is in
+    simp (read.0, read.1) (simp (c.moved.ensures, c.rigid_of.ensures) at c.store.ensures)
 
-pub returns-else-is_curve : goal.returns-else-is_curve
+pub returns-in-None : goal.returns-in-None
 unfolding stored
-returns-else-is_curve c = record {
-  number = simp (sym c.is_curve.ensures ∙ c.if-is_curve.false);
-  out = simp (sym c.is_curve.ensures ∙ c.if-is_curve.false);
-}
+returns-in-None c =
+    let unread = known_none _ _ _ c.curve_of.ensures c.in-None.is in
+    record { number = simp unread; out = simp unread }

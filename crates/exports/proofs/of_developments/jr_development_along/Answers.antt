@@ -1,5 +1,4 @@
-use borrow.Author.Rules.{rules}
 use Rattle.exports.proofs.of_developments.jr_development_along.Goals as goal
 
 pub returns : goal.returns
-returns c = simp (c.along.ensures, c.vec2_of-v.ensures, c.vec2_of-q.ensures, c.development_of-c.ensures) at c.store_vector.ensures
+returns c = simp (c.development_of.ensures, c.along.ensures, c.vec2_of.ensures, c.vec2_of-2.ensures) at c.store.ensures

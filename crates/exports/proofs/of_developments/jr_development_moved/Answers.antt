@@ -1,5 +1,4 @@
-use borrow.Author.Rules.{rules}
 use Rattle.exports.proofs.of_developments.jr_development_moved.Goals as goal
 
 pub returns : goal.returns
-returns c = simp (c.moved.ensures, c.rigid_of-g.ensures, c.development_of-d.ensures) at c.store_development.ensures
+returns c = simp (c.development_of.ensures, c.moved.ensures, c.rigid_of.ensures) at c.store.ensures

@@ -1,5 +1,4 @@
-use borrow.Author.Rules.{rules}
 use Rattle.exports.proofs.of_frames.jr_frame_angle.Goals as goal
 
 pub returns : goal.returns
-returns c = simp (c.angle.ensures, c.vec3_of-q.ensures, c.frame_of-g.ensures) at c.store_number.ensures
+returns c = simp (c.frame_of.ensures, c.angle.ensures, c.vec3_of.ensures) at c.store.ensures

@@ -1,5 +1,4 @@
-use borrow.Author.Rules.{rules}
 use Rattle.exports.proofs.of_motions.jr_rigid_frame.Goals as goal
 
 pub returns : goal.returns
-returns c = simp (c.frame.ensures, c.vec3_of-c.ensures, c.vec3_of-b.ensures, c.vec3_of-a.ensures, c.vec3_of-o.ensures) at c.store_motion.ensures
+returns c = simp (c.frame.ensures, c.vec3_of.ensures, c.vec3_of-2.ensures, c.vec3_of-3.ensures, c.vec3_of-4.ensures) at c.store.ensures

@@ -1,14 +1,14 @@
-use mathlib.Core.Path.{sym, ◌∙◌}
-use borrow.Author.Rules.{rules}
-use Rattle.c_arrays.specs.Records.{after}
+use Rattle.c_arrays.specs.Laws.{known_none, known_some}
+use Rattle.c_arrays.specs.Records.{stored}
 use Rattle.exports.proofs.of_pieces.jr_piece_measure.Goals as goal
 
-pub returns-then-is_piece : goal.returns-then-is_piece
-returns-then-is_piece c = simp (sym c.is_piece.ensures ∙ c.if-is_piece.true) (simp (c.measure.ensures, c.piece_of-c.ensures) at c.store_measure.ensures)
+pub returns-in-Some : goal.returns-in-Some
+returns-in-Some c =
+    let read = known_some _ _ _ _ c.piece_of.ensures c.in-Some.is in
+    simp (read.0, read.1) (simp c.measure.ensures at c.store.ensures)
 
-pub returns-else-is_piece : goal.returns-else-is_piece
-unfolding after
-returns-else-is_piece c = record {
-  number = simp (sym c.is_piece.ensures ∙ c.if-is_piece.false);
-  out = simp (sym c.is_piece.ensures ∙ c.if-is_piece.false);
-}
+pub returns-in-None : goal.returns-in-None
+unfolding stored
+returns-in-None c =
+    let unread = known_none _ _ _ c.piece_of.ensures c.in-None.is in
+    record { number = simp unread; out = simp unread }

@@ -1,7 +1,6 @@
-use borrow.Author.Rules.{rules}
 use Rattle.exports.proofs.of_sums.jr_revolution_add_arc.Goals as goal
 
 pub returns : goal.returns
 returns c =
-    let s = simp (c.add_arc.ensures, c.sums_of-old.ensures, c.vec3_of-to.ensures, c.vec3_of-from.ensures, c.arc_of-b.ensures, c.vec3_of-origin.ensures, c.cone_of-k.ensures) at c.store_sums.ensures in
+    let s = simp (c.add_arc.ensures, c.sums_of.ensures, c.cone_of.ensures, c.arc_of.ensures, c.vec3_of.ensures, c.vec3_of-2.ensures, c.vec3_of-3.ensures) at c.store.ensures in
     record { number = s.number; running = s.out }

@@ -1,16 +1,15 @@
-use mathlib.Core.Path.{sym, ◌∙◌}
-use borrow.Author.Rules.{rules}
-use Rattle.c_arrays.specs.Records.{after}
+use Rattle.c_arrays.specs.Laws.{known_none, known_some}
+use Rattle.c_arrays.specs.Records.{stored}
 use Rattle.exports.proofs.of_sums.jr_revolution_add_piece.Goals as goal
 
-pub returns-then-is_piece : goal.returns-then-is_piece
-returns-then-is_piece c =
-    let s = simp (c.add_piece.ensures, c.sums_of-old.ensures, c.piece_of-p.ensures, c.vec3_of-origin.ensures, c.cone_of-k.ensures) at c.store_sums.ensures in
-    simp (sym c.is_piece.ensures ∙ c.if-is_piece.true) (record { number = s.number; running = s.out })
+pub returns-in-Some : goal.returns-in-Some
+returns-in-Some c =
+    let read = known_some _ _ _ _ c.piece_of.ensures c.in-Some.is in
+    let s = simp (c.add_piece.ensures, c.sums_of.ensures, c.cone_of.ensures, c.vec3_of.ensures) at c.store.ensures in
+    simp (read.0, read.1) (record { number = s.number; running = s.out })
 
-pub returns-else-is_piece : goal.returns-else-is_piece
-unfolding after
-returns-else-is_piece c = record {
-  number = simp (sym c.is_piece.ensures ∙ c.if-is_piece.false);
-  running = simp (sym c.is_piece.ensures ∙ c.if-is_piece.false);
-}
+pub returns-in-None : goal.returns-in-None
+unfolding stored
+returns-in-None c =
+    let unread = known_none _ _ _ c.piece_of.ensures c.in-None.is in
+    record { number = simp unread; running = simp unread }

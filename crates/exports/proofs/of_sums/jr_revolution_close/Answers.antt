@@ -1,7 +1,6 @@
-use borrow.Author.Rules.{rules}
 use Rattle.exports.proofs.of_sums.jr_revolution_close.Goals as goal
 
 pub returns : goal.returns
 returns c =
-    let s = simp (c.closed.ensures, c.sums_of-old.ensures, c.sums_of-face.ensures, c.cone_of-k.ensures) at c.store_sums.ensures in
+    let s = simp (c.closed.ensures, c.sums_of.ensures, c.cone_of.ensures, c.sums_of-2.ensures) at c.store.ensures in
     record { number = s.number; acc = s.out }

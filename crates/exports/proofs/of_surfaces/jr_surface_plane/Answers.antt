@@ -1,14 +1,14 @@
-use mathlib.Core.Path.{sym, ◌∙◌}
-use borrow.Author.Rules.{rules}
-use Rattle.c_arrays.specs.Records.{after}
+use Rattle.c_arrays.specs.Laws.{known_none, known_some}
+use Rattle.c_arrays.specs.Records.{stored}
 use Rattle.exports.proofs.of_surfaces.jr_surface_plane.Goals as goal
 
-pub returns-then-is_surface : goal.returns-then-is_surface
-returns-then-is_surface c = simp (sym c.is_surface.ensures ∙ c.if-is_surface.true) (simp (c.plane.ensures, c.surface_of-f.ensures) at c.store_plane.ensures)
+pub returns-in-Some : goal.returns-in-Some
+returns-in-Some c =
+    let read = known_some _ _ _ _ c.surface_of.ensures c.in-Some.is in
+    simp (read.0, read.1) (simp c.plane.ensures at c.store_some.ensures)
 
-pub returns-else-is_surface : goal.returns-else-is_surface
-unfolding after
-returns-else-is_surface c = record {
-  number = simp (sym c.is_surface.ensures ∙ c.if-is_surface.false);
-  out = simp (sym c.is_surface.ensures ∙ c.if-is_surface.false);
-}
+pub returns-in-None : goal.returns-in-None
+unfolding stored
+returns-in-None c =
+    let unread = known_none _ _ _ c.surface_of.ensures c.in-None.is in
+    record { number = simp unread; out = simp unread }

@@ -1,14 +1,14 @@
-use mathlib.Core.Path.{sym, ◌∙◌}
-use borrow.Author.Rules.{rules}
-use Rattle.c_arrays.specs.Records.{after}
+use Rattle.c_arrays.specs.Laws.{known_none, known_some}
+use Rattle.c_arrays.specs.Records.{stored}
 use Rattle.exports.proofs.of_traces.jr_meet_point.Goals as goal
 
-pub returns-then-is_turn : goal.returns-then-is_turn
-returns-then-is_turn c = simp (sym c.is_turn.ensures ∙ c.if-is_turn.true) (simp (c.point.ensures, c.meet_of-c.ensures) at c.store_points.ensures)
+pub returns-in-Some : goal.returns-in-Some
+returns-in-Some c =
+    let read = known_some _ _ _ _ c.meet_of.ensures c.in-Some.is in
+    simp (read.0, read.1) (simp c.point.ensures at c.store.ensures)
 
-pub returns-else-is_turn : goal.returns-else-is_turn
-unfolding after
-returns-else-is_turn c = record {
-  number = simp (sym c.is_turn.ensures ∙ c.if-is_turn.false);
-  out = simp (sym c.is_turn.ensures ∙ c.if-is_turn.false);
-}
+pub returns-in-None : goal.returns-in-None
+unfolding stored
+returns-in-None c =
+    let unread = known_none _ _ _ c.meet_of.ensures c.in-None.is in
+    record { number = simp unread; out = simp unread }

@@ -1,14 +1,14 @@
-use mathlib.Core.Path.{sym, ◌∙◌}
-use borrow.Author.Rules.{rules}
-use Rattle.c_arrays.specs.Records.{after}
+use Rattle.c_arrays.specs.Laws.{known_none, known_some}
+use Rattle.c_arrays.specs.Records.{stored}
 use Rattle.exports.proofs.of_traces.jr_trace_v.Goals as goal
 
-pub returns-then-is_trace : goal.returns-then-is_trace
-returns-then-is_trace c = simp (sym c.is_trace.ensures ∙ c.if-is_trace.true) (simp (c.v.ensures, c.trace_of-c.ensures) at c.store_height.ensures)
+pub returns-in-Some : goal.returns-in-Some
+returns-in-Some c =
+    let read = known_some _ _ _ _ c.trace_of.ensures c.in-Some.is in
+    simp (read.0, read.1) (simp c.v.ensures at c.store_some.ensures)
 
-pub returns-else-is_trace : goal.returns-else-is_trace
-unfolding after
-returns-else-is_trace c = record {
-  number = simp (sym c.is_trace.ensures ∙ c.if-is_trace.false);
-  out = simp (sym c.is_trace.ensures ∙ c.if-is_trace.false);
-}
+pub returns-in-None : goal.returns-in-None
+unfolding stored
+returns-in-None c =
+    let unread = known_none _ _ _ c.trace_of.ensures c.in-None.is in
+    record { number = simp unread; out = simp unread }

@@ -1,5 +1,4 @@
-use borrow.Author.Rules.{rules}
 use Rattle.exports.proofs.of_traces.jr_wave_range.Goals as goal
 
 pub returns : goal.returns
-returns c = simp (c.range.ensures, c.wave_of-c.ensures) at c.store_span.ensures
+returns c = simp (c.wave_of.ensures, c.range.ensures) at c.store.ensures

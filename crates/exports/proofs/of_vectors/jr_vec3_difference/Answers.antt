@@ -1,5 +1,4 @@
-use borrow.Author.Rules.{rules}
 use Rattle.exports.proofs.of_vectors.jr_vec3_difference.Goals as goal
 
 pub returns : goal.returns
-returns c = simp (c.difference.ensures, c.vec3_of-v.ensures, c.vec3_of-u.ensures) at c.store_vector.ensures
+returns c = simp (c.vec3_of.ensures, c.difference.ensures, c.vec3_of-2.ensures) at c.store.ensures

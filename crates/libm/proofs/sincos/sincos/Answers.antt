@@ -1,16 +1,18 @@
 use Rattle.checked.specs.PatternLaws.{yes}
+use Rattle.checked.specs.ToldLaws.{stops, gives}
 use Rattle.libm.specs.Sincos.{sines_or_zeros}
-use Rattle.libm.specs.SincosLaws.{meets_none}
-use mathlib.Core.Path.{sym, ◌∙◌}
+use Rattle.libm.specs.SincosLaws.{meets_none, within_where_none}
+use mathlib.Core.Path.{sym}
 use Rattle.libm.proofs.sincos.sincos.Goals as goal
 
-pub both_sines-v-requires : goal.both_sines-v-requires
-both_sines-v-requires c = yes (sym c.is_within.ensures ∙ c.if-is_within.true)
+pub both_sines-requires : goal.both_sines-requires
+both_sines-requires c = yes (within_where_none _ c.in_ok-require_angle.ensures)
 
-pub returns-then-is_within : goal.returns-then-is_within
-unfolding sines_or_zeros
-returns-then-is_within c = record { refusal = sym (meets_none _ (sym c.is_within.ensures ∙ c.if-is_within.true)); sin = simp (c.both_sines-v.ensures, sym c.is_within.ensures ∙ c.if-is_within.true); cos = simp (c.both_sines-v.ensures, sym c.is_within.ensures ∙ c.if-is_within.true) }
+pub returns-in_err-require_angle : goal.returns-in_err-require_angle
+returns-in_err-require_angle c = stops _ _ _ c.from_residual.ensures (sym c.in_err-require_angle.ensures)
 
-pub returns-else-is_within : goal.returns-else-is_within
+pub returns : goal.returns
 unfolding sines_or_zeros
-returns-else-is_within c = record { refusal = c.angle_refusal.ensures; sin = simp (sym c.is_within.ensures ∙ c.if-is_within.false); cos = simp (sym c.is_within.ensures ∙ c.if-is_within.false) }
+returns c =
+    let is = within_where_none _ c.in_ok-require_angle.ensures in
+    gives _ _ (meets_none _ is) (simp (is, c.both_sines.ensures))

@@ -1,9 +1,13 @@
 use Rattle.meets.specs.Meets.{derivatives_c}
+use Rattle.checked.specs.ToldLaws.{stops, follows, none_met, value_is, met_is, rules as told_rules}
 use Rattle.meets.proofs.formula.jet.Goals as goal
 
+pub returns-in_err-p : goal.returns-in_err-p
+returns-in_err-p c = stops _ _ _ c.from_residual.ensures (unfold derivatives_c in simp (met_is _ _ c.in_err-p.ensures, told_rules))
+
 pub returns : goal.returns
-unfolding derivatives_c
-returns c = record {
-  refusal = simp (c.earlier.ensures, c.jet_at-j.ensures.refusal, c.pipe-x.ensures.refusal, c.pipe-x.ensures.value);
-  value = simp (c.jet_at-j.ensures.value, c.pipe-x.ensures.value);
-}
+returns c =
+    let p = c.in_ok-p.ensures in
+    follows _ _ _ _ c.jet_at.ensures
+    (unfold derivatives_c in simp (none_met _ _ p, value_is _ _ p, told_rules))
+    (unfold derivatives_c in simp (value_is _ _ p))

@@ -1,12 +1,11 @@
 use Rattle.motions.specs.Motions.{rotation_due}
-use Rattle.checked.specs.TestsLaws.{passing_none, passing_some}
-use mathlib.Core.Path.{sym}
+use Rattle.checked.specs.ToldLaws.{fails_by, passes}
 use Rattle.motions.proofs.Rigid.rotation.Goals as goal
 
-pub returns-then-t-eq0 : goal.returns-then-t-eq0
+pub returns-in_err-require : goal.returns-in_err-require
 unfolding rotation_due
-returns-then-t-eq0 c = simp (c.settle.ensures, c.rotation.ensures.refusal, c.rotation.ensures.value, c.if-t-eq0.true, passing_none, ← c.fails-t.ensures, ← c.is_within_turn.ensures)
+returns-in_err-require c = fails_by _ _ _ _ c.from_residual.ensures (simp c.is_within_turn.ensures at c.in_err-require.ensures)
 
-pub returns-else-t-eq0 : goal.returns-else-t-eq0
+pub returns : goal.returns
 unfolding rotation_due
-returns-else-t-eq0 c = simp (← c.fails-t.ensures, ← c.is_within_turn.ensures) (sym (passing_some _ _ c.if-t-eq0.false))
+returns c = passes _ _ _ (simp c.is_within_turn.ensures at c.in_ok-require.ensures) c.rotation.ensures

@@ -1,11 +1,9 @@
-use Prim.Native.Nat.{◌≤◌, ◌-◌}
+use Rattle.std.specs.Prelude.{◌≡◌}
+use Rattle.checked.specs.Checked.{due, answered}
 use Rattle.checked.specs.Loops.{fold_c}
-use Rattle.checked.specs.LoopsLaws.{Done}
 use Rattle.piece_boxes.specs.Brackets.{bisect_c}
 use Rattle.piece_boxes.proofs.brackets.bisected.Given as goal
 
-abbrev pub invariant-loop-i : goal.invariant-loop-i
-invariant-loop-i l = (l.i ≤ 60) × Done (fold_c l.i (λ j b. bisect_c l.c l.upright l.rising b) l.initial.a) l.r l.a
-
-abbrev pub decreases-loop-i : goal.decreases-loop-i
-decreases-loop-i l = 60 - l.i
+-- what some halvings leave
+abbrev pub invariant-loop : goal.invariant-loop
+invariant-loop l = due l.a ≡ answered (fold_c l.counter (λ j b. bisect_c l.c l.upright l.rising b) l.initial.a)

@@ -1,20 +1,29 @@
-use Rattle.piece_boxes.specs.MeetBoxes.{end_c}
-use Rattle.checked.specs.Laws.{rules as checked_rules}
-use Rattle.piece_boxes.specs.BracketsLaws.{rules as windows_rules}
-use Rattle.piece_boxes.specs.MeetBoxesLaws.{rules as meet_boxes_rules}
 use mathlib.Core.Path.{sym, ◌∙◌}
+use Rattle.checked.specs.Laws.{opened}
+use Rattle.checked.specs.ToldLaws.{stops, gives, none_met, value_is, met_is, rules as told_rules}
+use Rattle.piece_boxes.specs.MeetBoxes.{end_c}
 use Rattle.piece_boxes.proofs.meet_boxes.end.Goals as goal
 
-pub returns-then-is_end : goal.returns-then-is_end
+pub returns-in_err-t : goal.returns-in_err-t
 unfolding end_c
-returns-then-is_end c = record {
-  refusal = simp (c.earlier.ensures, c.note.ensures, c.point-p.ensures.refusal, sym c.is_end.ensures ∙ c.if-is_end.true, checked_rules, windows_rules, meet_boxes_rules);
-  value = simp (c.widen.ensures, c.point-p.ensures.value, sym c.is_end.ensures ∙ c.if-is_end.true);
-}
+returns-in_err-t c = stops _ _ _ c.from_residual.ensures (simp (sym c.is_end.ensures ∙ c.if-is_end.true, opened, met_is _ _ c.in_err-t.ensures, told_rules))
+
+pub returns-in_err-p : goal.returns-in_err-p
+unfolding end_c
+returns-in_err-p c =
+    let t = c.in_ok-t.ensures in
+    let p = simp (← value_is _ _ t) at c.in_err-p.ensures in
+    stops _ _ _ c.from_residual-in_err-p.ensures (simp (sym c.is_end.ensures ∙ c.if-is_end.true, opened, none_met _ _ t, met_is _ _ p))
+
+pub returns-in_ok-p : goal.returns-in_ok-p
+unfolding end_c
+returns-in_ok-p c =
+    let t = c.in_ok-t.ensures in
+    let p = simp (← value_is _ _ t) at c.in_ok-p.ensures in
+    gives _ _
+    (simp (sym c.is_end.ensures ∙ c.if-is_end.true, opened, none_met _ _ t, none_met _ _ p))
+    (simp (sym c.is_end.ensures ∙ c.if-is_end.true, c.widen.ensures, value_is _ _ p))
 
 pub returns-else-is_end : goal.returns-else-is_end
 unfolding end_c
-returns-else-is_end c = record {
-  refusal = simp (sym c.is_end.ensures ∙ c.if-is_end.false, checked_rules, windows_rules, meet_boxes_rules);
-  value = simp (sym c.is_end.ensures ∙ c.if-is_end.false);
-}
+returns-else-is_end c = gives _ _ (simp (sym c.is_end.ensures ∙ c.if-is_end.false)) (simp (sym c.is_end.ensures ∙ c.if-is_end.false))

@@ -1,10 +1,18 @@
+use mathlib.Core.Path.{refl}
+use Rattle.checked.specs.ToldLaws.{stops, follows, none_met, value_is, met_is, rules as told_rules}
 use Rattle.piece_boxes.specs.MeetBoxes.{box_c}
-use Rattle.piece_boxes.specs.MeetBoxesLaws.{rules as meet_boxes_rules}
 use Rattle.piece_boxes.proofs.meet_boxes.meet_box.Goals as goal
+
+pub returns-in_err-s : goal.returns-in_err-s
+unfolding box_c
+returns-in_err-s c = stops _ _ _ c.from_residual.ensures (simp (met_is _ _ c.in_err-s.ensures.ends, told_rules))
+
+pub spanned-requires : goal.spanned-requires
+spanned-requires c = c.in_ok-s.ensures.stored
 
 pub returns : goal.returns
 unfolding box_c
-returns c = record {
-  refusal = simp (c.earlier.ensures, c.spanned-x.ensures.refusal, c.sampled-s.ensures.refusal, c.sampled-s.ensures.ends, c.sampled-s.ensures.stored, meet_boxes_rules);
-  value = simp (c.spanned-x.ensures.value, c.sampled-s.ensures.ends, c.sampled-s.ensures.stored);
-}
+returns c =
+    let s = c.in_ok-s.ensures.ends in
+    let w = simp (← value_is _ _ s) at c.spanned.ensures in
+    follows _ _ _ _ w (simp (none_met _ _ s, told_rules)) refl

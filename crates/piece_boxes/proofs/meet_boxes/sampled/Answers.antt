@@ -1,55 +1,48 @@
-use mathlib.Core.Path.{◌≡◌, refl}
+use Rattle.checked.specs.LoopsLaws.{fold_start, fold_goes, fold_stops}
+use mathlib.Core.Path.{refl}
 use native.Mathlib.Omega.{arith}
+use Rattle.std.proofs.Common.{◌∙◌, ◌≡◌, ap}
 use lib.ListN.{length-set}
 use lib.Ieee.{of_bits, neg, div}
-use Rattle.checked.specs.LoopsLaws.{done_none, done_more}
+use Rattle.checked.specs.Answers.{and_then}
+use Rattle.checked.specs.Checked.{Due, due}
+use Rattle.checked.specs.ToldLaws.{exit_is, gives, none_met, value_is, met_is, rules as told_rules}
+use Rattle.piece_boxes.specs.declared.meet_boxes.Samples.{Samples}
 use Rattle.piece_boxes.specs.MeetBoxes.{start_c}
-use Rattle.piece_boxes.specs.MeetBoxesLaws.{stored_none, stored_more, step_refusal, step_value, sample_refusal, sample_value}
+use Rattle.piece_boxes.specs.MeetBoxesLaws.{stored_none, stored_more, step_refusal, step_value}
 use Rattle.piece_boxes.proofs.meet_boxes.sampled.Goals as goal
 
 pub loop-k-init : goal.loop-k-init
 unfolding of_bits neg div
-loop-k-init c = (omega arith, refl, refl, done_none _ _, stored_none _ _ _)
+loop-k-init c = (refl, refl, fold_start _ _, stored_none _ _ _)
 
-pub offset_bounds-us-k : goal.offset_bounds-us-k
-offset_bounds-us-k c = omega arith
+pub returns-in_err-d-clause-ends : goal.returns-in_err-d-clause-ends
+unfolding start_c
+returns-in_err-d-clause-ends c =
+    ap (λ (d : Due Samples). and_then d (λ s. due s.ends)) (exit_is _ _ c.from_residual.ensures) ∙
+    fold_stops _ _ _ _ _ _ c.loop-k-test.true c.loop-k.invariant.2 (simp (step_refusal c.args.c c.loop-k.k c.loop-k.ends, met_is _ _ c.in_err-d.ensures, told_rules))
 
-pub bounds-us-k : goal.bounds-us-k
-bounds-us-k c = omega arith
-
-pub offset_bounds-vs-k : goal.offset_bounds-vs-k
-offset_bounds-vs-k c = omega arith
-
-pub bounds-vs-k : goal.bounds-vs-k
-bounds-vs-k c = omega arith
-
-pub overflow_add-k : goal.overflow_add-k
-overflow_add-k c = omega arith
-
-pub loop-k-smaller : goal.loop-k-smaller
-loop-k-smaller c = omega arith
+pub returns-in_err-ends-clause-ends : goal.returns-in_err-ends-clause-ends
+unfolding start_c
+returns-in_err-ends-clause-ends c =
+    ap (λ (d : Due Samples). and_then d (λ s. due s.ends)) (exit_is _ _ c.from_residual-in_err-ends.ensures) ∙
+    fold_stops _ _ _ _ _ _ c.loop-k-test.true c.loop-k.invariant.2
+    (simp (step_refusal c.args.c c.loop-k.k c.loop-k.ends, none_met _ _ c.in_ok-d.ensures, met_is _ _ c.in_err-ends.ensures, told_rules))
 
 pub loop-k-preserved : goal.loop-k-preserved
 loop-k-preserved c =
     let at = c.loop-k in
-    let d = done_more _ _ at.k at.r at.b at.invariant.3 in
-    let s = stored_more _ at.k at.us at.vs (omega arith) (omega arith) at.invariant.4 in
-    let m = c.motion-m.ensures in (
-      omega arith,
+    let d = c.in_ok-d.ensures in
+    let e = c.in_ok-ends.ensures in (
+      simp length-set at.invariant.0,
       simp length-set at.invariant.1,
-      simp length-set at.invariant.2,
-      simp (c.earlier-r.ensures, c.earlier.ensures, c.end-e.ensures.refusal, c.end-e.ensures.value, c.sample-d.ensures.refusal, m.ru, m.rv) (rw (step_refusal _ _ _, step_value _ _ _, sample_refusal _ _) at d),
-      simp (c.sample-d.ensures.value, m.u, m.v) (rw (sample_value _ _) at s),
+      fold_goes _ _ at.k _ _ at.invariant.2
+          (gives _ _ (simp (step_refusal c.args.c at.k at.ends, none_met _ _ d, none_met _ _ e, told_rules)) (simp (step_value c.args.c at.k at.ends, value_is _ _ e))),
+      simp (← value_is _ _ d) (stored_more _ at.k at.u at.v (omega arith) (omega arith) at.invariant.3),
     )
 
-pub returns : goal.returns
+pub returns-clause-ends : goal.returns-clause-ends
 unfolding start_c
-returns c =
-    let at = c.loop-k in
-    let all : at.k ≡ 65 = omega arith in
-    let d = rw all at at.invariant.3 in
-    record {
-      refusal = d.refusal;
-      ends = d.value;
-      stored = rw all at at.invariant.4;
-    }
+returns-clause-ends c =
+    let all : c.loop-k.k ≡ 65 = omega arith in
+    rw all at c.loop-k.invariant.2

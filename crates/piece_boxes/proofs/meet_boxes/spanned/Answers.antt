@@ -1,57 +1,34 @@
-use mathlib.Core.Path.{◌≡◌}
-use native.Mathlib.Omega.{arith}
-use Rattle.checked.specs.LoopsLaws.{done_none, done_more}
+use Rattle.checked.specs.LoopsLaws.{fold_start, fold_goes, fold_stops}
+use Rattle.std.proofs.Common.{◌∙◌, ◌≡◌, arith}
+use Rattle.checked.specs.ToldLaws.{exit_is, gives, none_met, value_is, met_is, rules as told_rules}
 use Rattle.piece_boxes.specs.MeetBoxesLaws.{span_refusal, span_value}
 use Rattle.piece_boxes.proofs.meet_boxes.spanned.Goals as goal
 
 pub loop-k-init : goal.loop-k-init
-loop-k-init c = (omega arith, done_none _ _)
+loop-k-init c = fold_start _ _
 
-pub at-requires : goal.at-requires
-at-requires c = omega arith
+pub returns-in_err-b : goal.returns-in_err-b
+returns-in_err-b c =
+    let b = simp (c.at.ensures, c.at-in-loop-k.ensures) at c.in_err-b.ensures in
+    let law = span_refusal c.args.c c.loop-k.k c.loop-k.b c.args.us.now c.args.vs.now c.requires c.loop-k-test.true in
+    exit_is _ _ c.from_residual.ensures ∙ fold_stops _ _ _ _ _ _ c.loop-k-test.true c.loop-k.invariant (simp (law, met_is _ _ b, told_rules))
 
-pub overflow_add-k : goal.overflow_add-k
-overflow_add-k c = omega arith
-
-pub at-requires-in-loop-k : goal.at-requires-in-loop-k
-at-requires-in-loop-k c = omega arith
-
-pub bracketed-x-requires : goal.bracketed-x-requires
-bracketed-x-requires c = omega arith
-
-pub at-requires-in-loop-k-2 : goal.at-requires-in-loop-k-2
-at-requires-in-loop-k-2 c = omega arith
-
-pub overflow_add-k-in-loop-k : goal.overflow_add-k-in-loop-k
-overflow_add-k-in-loop-k c = omega arith
-
-pub at-requires-in-loop-k-3 : goal.at-requires-in-loop-k-3
-at-requires-in-loop-k-3 c = omega arith
-
-pub bracketed-y-requires : goal.bracketed-y-requires
-bracketed-y-requires c = omega arith
-
-pub overflow_add-k-in-loop-k-2 : goal.overflow_add-k-in-loop-k-2
-overflow_add-k-in-loop-k-2 c = omega arith
-
-pub loop-k-smaller : goal.loop-k-smaller
-loop-k-smaller c = omega arith
+pub returns-in_err-b-2 : goal.returns-in_err-b-2
+returns-in_err-b-2 c =
+    let a = simp (c.at.ensures, c.at-in-loop-k.ensures) at c.in_ok-b.ensures in
+    let b = simp (c.at-in-loop-k-2.ensures, c.at-in-loop-k-3.ensures, ← value_is _ _ a) at c.in_err-b-2.ensures in
+    let law = span_refusal c.args.c c.loop-k.k c.loop-k.b c.args.us.now c.args.vs.now c.requires c.loop-k-test.true in
+    exit_is _ _ c.from_residual-in_err-b-2.ensures ∙ fold_stops _ _ _ _ _ _ c.loop-k-test.true c.loop-k.invariant (simp (law, none_met _ _ a, met_is _ _ b, told_rules))
 
 pub loop-k-preserved : goal.loop-k-preserved
 loop-k-preserved c =
-    let at = c.loop-k in
-    let less = c.loop-k-test.true in
-    let d = done_more _ _ at.k at.r at.b at.invariant.1 in (
-      omega (arith, less),
-      simp (c.earlier-r.ensures, c.earlier.ensures, c.bracketed-y.ensures.refusal, c.bracketed-y.ensures.value, c.at-in-loop-k-3.ensures, c.at-in-loop-k-2.ensures, c.bracketed-x.ensures.refusal, c.bracketed-x.ensures.value, c.at-in-loop-k.ensures, c.at.ensures) (rw (span_refusal _ at.k at.b _ _ c.requires less, span_value _ at.k at.b _ _ c.requires less) at d),
-    )
+    let a = simp (c.at.ensures, c.at-in-loop-k.ensures) at c.in_ok-b.ensures in
+    let b = simp (c.at-in-loop-k-2.ensures, c.at-in-loop-k-3.ensures, ← value_is _ _ a) at c.in_ok-b-2.ensures in
+    let refusal = span_refusal c.args.c c.loop-k.k c.loop-k.b c.args.us.now c.args.vs.now c.requires c.loop-k-test.true in
+    let value = span_value c.args.c c.loop-k.k c.loop-k.b c.args.us.now c.args.vs.now c.requires c.loop-k-test.true in
+    fold_goes _ _ c.loop-k.k _ _ c.loop-k.invariant (gives _ _ (simp (refusal, none_met _ _ a, none_met _ _ b, told_rules)) (simp (value, value_is _ _ b)))
 
 pub returns : goal.returns
 returns c =
-    let at = c.loop-k in
-    let all : at.k ≡ 64 = omega arith in
-    let d = rw all at at.invariant.1 in
-    record {
-      refusal = d.refusal;
-      value = d.value;
-    }
+    let all : c.loop-k.k ≡ 64 = omega arith in
+    rw all at c.loop-k.invariant

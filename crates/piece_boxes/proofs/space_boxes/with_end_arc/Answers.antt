@@ -1,9 +1,27 @@
-use Rattle.checked.specs.Laws.{first_assoc}
+use Rattle.checked.specs.ToldLaws.{stops, follows, none_met, value_is, met_is, rules as told_rules}
 use Rattle.piece_boxes.specs.SpaceBoxesLaws.{rim_refusal, rim_value}
 use Rattle.piece_boxes.proofs.space_boxes.with_end_arc.Goals as goal
 
+pub returns-in_err-c : goal.returns-in_err-c
+returns-in_err-c c =
+    let centre = simp (c.plus.ensures, c.times.ensures) at c.in_err-c.ensures in
+    stops _ _ _ c.from_residual.ensures (simp (rim_refusal, met_is _ _ centre, told_rules))
+
+pub returns-in_err-from : goal.returns-in_err-from
+returns-in_err-from c =
+    let centre = simp (c.plus.ensures, c.times.ensures) at c.in_ok-c.ensures in
+    stops _ _ _ c.from_residual-in_err-from.ensures (simp (rim_refusal, none_met _ _ centre, met_is _ _ c.in_err-from.ensures, told_rules))
+
+pub returns-in_err-to : goal.returns-in_err-to
+returns-in_err-to c =
+    let centre = simp (c.plus.ensures, c.times.ensures) at c.in_ok-c.ensures in
+    stops _ _ _ c.from_residual-in_err-to.ensures
+    (simp (rim_refusal, none_met _ _ centre, none_met _ _ c.in_ok-from.ensures, met_is _ _ c.in_err-to.ensures, told_rules))
+
 pub returns : goal.returns
-returns c = record {
-  refusal = simp (c.extended.ensures.refusal, c.earlier-2.ensures, c.earlier.ensures, c.noted.ensures, c.point-y.ensures.refusal, c.point-x.ensures.refusal, c.point-y.ensures.value, c.point-x.ensures.value, c.plus-c.ensures, c.times.ensures, rim_refusal, first_assoc);
-  value = simp (c.extended.ensures.value, c.point-y.ensures.value, c.point-x.ensures.value, c.plus-c.ensures, c.times.ensures, rim_value);
-}
+returns c =
+    let centre = simp (c.plus.ensures, c.times.ensures) at c.in_ok-c.ensures in
+    let from = c.in_ok-from.ensures in
+    let to = c.in_ok-to.ensures in
+    let arc = simp (← value_is _ _ centre, ← value_is _ _ from, ← value_is _ _ to) at c.extended.ensures in
+    follows _ _ _ _ arc (simp (rim_refusal, none_met _ _ centre, none_met _ _ from, none_met _ _ to, told_rules)) (simp rim_value)

@@ -1,17 +1,112 @@
-use Rattle.piece_lengths.specs.SecondDerivatives.{meet_c}
-use Rattle.checked.specs.Laws.{rules as checked_rules}
+use Rattle.checked.specs.Laws.{first_assoc}
+use Rattle.checked.specs.ToldLaws.{stops, gives, none_met, value_is, met_is, rules as told_rules}
+use Rattle.piece_lengths.specs.SecondDerivatives.{level_at_c, level_slope_c, level_bend_c, height_bend_c, bend_u_c, bend_v_c, meet_c}
+use Rattle.piece_lengths.specs.SecondDerivativesLaws.{meet_refusal}
 use Rattle.piece_lengths.proofs.second_derivatives.meet_second.Goals as goal
 
-pub returns-in-Without : goal.returns-in-Without
-unfolding meet_c
-returns-in-Without c = record {
-  refusal = simp (c.in-Without.is, c.meet_seconds-b.ensures.rv, checked_rules);
-  value = simp (c.in-Without.is, c.meet_seconds-b.ensures.v);
-}
+pub returns-in_err-k : goal.returns-in_err-k
+returns-in_err-k c =
+    let k = simp c.rate.ensures at c.in_err-k.ensures in
+    stops _ _ _ c.from_residual.ensures (simp (meet_refusal, met_is _ _ k, told_rules))
 
-pub returns-in-Angles : goal.returns-in-Angles
-unfolding meet_c
-returns-in-Angles c = record {
-  refusal = simp (c.earlier.ensures, c.in-Angles.is, c.meet_seconds-b.ensures.ru, c.meet_seconds-b.ensures.rv, checked_rules);
-  value = simp (c.in-Angles.is, c.meet_seconds-b.ensures.u, c.meet_seconds-b.ensures.v);
-}
+pub returns-in_err-phi : goal.returns-in_err-phi
+returns-in_err-phi c =
+    let k = simp c.rate.ensures at c.in_ok-k.ensures in
+    let phi = simp c.angle.ensures at c.in_err-phi.ensures in
+    stops _ _ _ c.from_residual-in_err-phi.ensures (simp (meet_refusal, none_met _ _ k, met_is _ _ phi, told_rules))
+
+pub returns-in_err-h : goal.returns-in_err-h
+returns-in_err-h c =
+    let k = simp c.rate.ensures at c.in_ok-k.ensures in
+    let phi = simp c.angle.ensures at c.in_ok-phi.ensures in
+    let h = simp (← value_is _ _ phi) at c.in_err-h.ensures in
+    stops _ _ _ c.from_residual-in_err-h.ensures (simp (meet_refusal, none_met _ _ k, none_met _ _ phi, met_is _ _ h, told_rules))
+
+pub returns-in_err-s : goal.returns-in_err-s
+returns-in_err-s c =
+    let k = simp c.rate.ensures at c.in_ok-k.ensures in
+    let phi = simp c.angle.ensures at c.in_ok-phi.ensures in
+    let h = simp (← value_is _ _ phi) at c.in_ok-h.ensures in
+    let s = simp (← value_is _ _ h) at c.in_err-s.ensures in
+    stops _ _ _ c.from_residual-in_err-s.ensures (simp (meet_refusal, none_met _ _ k, none_met _ _ phi, none_met _ _ h, met_is _ _ s, told_rules))
+
+pub returns-in_err-e : goal.returns-in_err-e
+returns-in_err-e c =
+    let k = simp c.rate.ensures at c.in_ok-k.ensures in
+    let phi = simp c.angle.ensures at c.in_ok-phi.ensures in
+    let h = simp (← value_is _ _ phi) at c.in_ok-h.ensures in
+    let s = simp (← value_is _ _ h) at c.in_ok-s.ensures in
+    let e = simp (← value_is _ _ h, ← value_is _ _ s) at c.in_err-e.ensures in
+    stops _ _ _ c.from_residual-in_err-e.ensures (simp (meet_refusal, none_met _ _ k, none_met _ _ phi, none_met _ _ h, none_met _ _ s, met_is _ _ e, told_rules))
+
+pub returns-in_err-y-in-Without : goal.returns-in_err-y-in-Without
+returns-in_err-y-in-Without c =
+    let k = simp c.rate.ensures at c.in_ok-k.ensures in
+    let phi = simp c.angle.ensures at c.in_ok-phi.ensures in
+    let h = simp (← value_is _ _ phi) at c.in_ok-h.ensures in
+    let s = simp (← value_is _ _ h) at c.in_ok-s.ensures in
+    let e = simp (← value_is _ _ h, ← value_is _ _ s) at c.in_ok-e.ensures in
+    let y = simp (← value_is _ _ k, ← value_is _ _ e) at c.in_err-y-in-Without.ensures in
+    stops _ _ _ c.from_residual-in_err-y-in-Without.ensures (simp (meet_refusal, c.in-Without.is, none_met _ _ k, none_met _ _ phi, none_met _ _ h, none_met _ _ s, none_met _ _ e, told_rules) (unfold bend_v_c height_bend_c in met_is _ _ y))
+
+pub returns-in_ok-y-in-Without : goal.returns-in_ok-y-in-Without
+returns-in_ok-y-in-Without c =
+    let k = simp c.rate.ensures at c.in_ok-k.ensures in
+    let phi = simp c.angle.ensures at c.in_ok-phi.ensures in
+    let h = simp (← value_is _ _ phi) at c.in_ok-h.ensures in
+    let s = simp (← value_is _ _ h) at c.in_ok-s.ensures in
+    let e = simp (← value_is _ _ h, ← value_is _ _ s) at c.in_ok-e.ensures in
+    let y = simp (← value_is _ _ k, ← value_is _ _ e) at c.in_ok-y-in-Without.ensures in
+    gives _ _
+    (simp (meet_refusal, c.in-Without.is, none_met _ _ k, none_met _ _ phi, none_met _ _ h, none_met _ _ s, none_met _ _ e, told_rules) (unfold bend_v_c height_bend_c in none_met _ _ y))
+    (unfold meet_c bend_v_c height_bend_c in simp (c.in-Without.is, value_is _ _ y))
+
+pub returns-in_err-bend-in-Angles : goal.returns-in_err-bend-in-Angles
+returns-in_err-bend-in-Angles c =
+    let k = simp c.rate.ensures at c.in_ok-k.ensures in
+    let phi = simp c.angle.ensures at c.in_ok-phi.ensures in
+    let h = simp (← value_is _ _ phi) at c.in_ok-h.ensures in
+    let s = simp (← value_is _ _ h) at c.in_ok-s.ensures in
+    let e = simp (← value_is _ _ h, ← value_is _ _ s) at c.in_ok-e.ensures in
+    let bend = simp (c.level-q.ensures, c.level-q1.ensures, c.level-q2.ensures, ← value_is _ _ h, ← value_is _ _ s, ← value_is _ _ e) at c.in_err-bend-in-Angles.ensures in
+    stops _ _ _ c.from_residual-in_err-bend-in-Angles.ensures
+    (simp (meet_refusal, c.in-Angles.is, first_assoc, none_met _ _ k, none_met _ _ phi, none_met _ _ h, none_met _ _ s, none_met _ _ e, told_rules) (unfold level_at_c level_slope_c level_bend_c bend_u_c bend_v_c height_bend_c in simp (met_is _ _ bend, told_rules)))
+
+pub returns-in_err-x-in-Angles : goal.returns-in_err-x-in-Angles
+returns-in_err-x-in-Angles c =
+    let k = simp c.rate.ensures at c.in_ok-k.ensures in
+    let phi = simp c.angle.ensures at c.in_ok-phi.ensures in
+    let h = simp (← value_is _ _ phi) at c.in_ok-h.ensures in
+    let s = simp (← value_is _ _ h) at c.in_ok-s.ensures in
+    let e = simp (← value_is _ _ h, ← value_is _ _ s) at c.in_ok-e.ensures in
+    let bend = simp (c.level-q.ensures, c.level-q1.ensures, c.level-q2.ensures, ← value_is _ _ h, ← value_is _ _ s, ← value_is _ _ e) at c.in_ok-bend-in-Angles.ensures in
+    let x = simp (← value_is _ _ bend, ← value_is _ _ k) at c.in_err-x-in-Angles.ensures in
+    stops _ _ _ c.from_residual-in_err-x-in-Angles.ensures
+    (simp (meet_refusal, c.in-Angles.is, first_assoc, none_met _ _ k, none_met _ _ phi, none_met _ _ h, none_met _ _ s, none_met _ _ e, told_rules) (unfold level_at_c level_slope_c level_bend_c bend_u_c bend_v_c height_bend_c in simp (none_met _ _ bend, met_is _ _ x, told_rules)))
+
+pub returns-in_err-y-in-Angles : goal.returns-in_err-y-in-Angles
+returns-in_err-y-in-Angles c =
+    let k = simp c.rate.ensures at c.in_ok-k.ensures in
+    let phi = simp c.angle.ensures at c.in_ok-phi.ensures in
+    let h = simp (← value_is _ _ phi) at c.in_ok-h.ensures in
+    let s = simp (← value_is _ _ h) at c.in_ok-s.ensures in
+    let e = simp (← value_is _ _ h, ← value_is _ _ s) at c.in_ok-e.ensures in
+    let bend = simp (c.level-q.ensures, c.level-q1.ensures, c.level-q2.ensures, ← value_is _ _ h, ← value_is _ _ s, ← value_is _ _ e) at c.in_ok-bend-in-Angles.ensures in
+    let x = simp (← value_is _ _ bend, ← value_is _ _ k) at c.in_ok-x-in-Angles.ensures in
+    let y = simp (← value_is _ _ k, ← value_is _ _ e) at c.in_err-y-in-Angles.ensures in
+    stops _ _ _ c.from_residual-in_err-y-in-Angles.ensures
+    (simp (meet_refusal, c.in-Angles.is, first_assoc, none_met _ _ k, none_met _ _ phi, none_met _ _ h, none_met _ _ s, none_met _ _ e, told_rules) (unfold level_at_c level_slope_c level_bend_c bend_u_c bend_v_c height_bend_c in simp (none_met _ _ bend, none_met _ _ x, met_is _ _ y, told_rules)))
+
+pub returns-in_ok-y-in-Angles : goal.returns-in_ok-y-in-Angles
+returns-in_ok-y-in-Angles c =
+    let k = simp c.rate.ensures at c.in_ok-k.ensures in
+    let phi = simp c.angle.ensures at c.in_ok-phi.ensures in
+    let h = simp (← value_is _ _ phi) at c.in_ok-h.ensures in
+    let s = simp (← value_is _ _ h) at c.in_ok-s.ensures in
+    let e = simp (← value_is _ _ h, ← value_is _ _ s) at c.in_ok-e.ensures in
+    let bend = simp (c.level-q.ensures, c.level-q1.ensures, c.level-q2.ensures, ← value_is _ _ h, ← value_is _ _ s, ← value_is _ _ e) at c.in_ok-bend-in-Angles.ensures in
+    let x = simp (← value_is _ _ bend, ← value_is _ _ k) at c.in_ok-x-in-Angles.ensures in
+    let y = simp (← value_is _ _ k, ← value_is _ _ e) at c.in_ok-y-in-Angles.ensures in
+    gives _ _
+    (simp (meet_refusal, c.in-Angles.is, first_assoc, none_met _ _ k, none_met _ _ phi, none_met _ _ h, none_met _ _ s, none_met _ _ e, told_rules) (unfold level_at_c level_slope_c level_bend_c bend_u_c bend_v_c height_bend_c in simp (none_met _ _ bend, none_met _ _ x, none_met _ _ y, told_rules)))
+    (unfold meet_c level_at_c level_slope_c level_bend_c bend_u_c bend_v_c height_bend_c in simp (c.in-Angles.is, value_is _ _ x, value_is _ _ y))

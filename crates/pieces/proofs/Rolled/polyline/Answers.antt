@@ -1,12 +1,25 @@
 use Rattle.pieces.specs.Entries.{polyline_due}
-use Rattle.checked.specs.TestsLaws.{passing_none, passing_some}
-use mathlib.Core.Path.{sym}
+use Rattle.checked.specs.ToldLaws.{fails_by, passes, stops, none_met, value_is, met_is, rules as told_rules}
 use Rattle.pieces.proofs.Rolled.polyline.Goals as goal
 
-pub returns-then-n-eq0 : goal.returns-then-n-eq0
+pub returns-in_err-require : goal.returns-in_err-require
 unfolding polyline_due
-returns-then-n-eq0 c = simp (c.settle_count.ensures, c.polyline_of.ensures.refusal, c.polyline_of.ensures.value, c.run-x.ensures.refusal, c.run-x.ensures.value, c.if-n-eq0.true, passing_none, ← c.earlier-n-2.ensures, ← c.fails.ensures, ← c.earlier-n.ensures, ← c.tried.ensures, ← c.fails-n.ensures, ← c.is_within.ensures)
+returns-in_err-require c = fails_by _ _ _ _ c.from_residual.ensures (simp (← c.in_err-require.ensures, ← c.is_within.ensures, told_rules))
 
-pub returns-else-n-eq0 : goal.returns-else-n-eq0
+pub returns-in_err-tried : goal.returns-in_err-tried
 unfolding polyline_due
-returns-else-n-eq0 c = simp (← c.earlier-n-2.ensures, ← c.fails.ensures, ← c.earlier-n.ensures, ← c.tried.ensures, ← c.fails-n.ensures, ← c.is_within.ensures) (sym (passing_some _ _ c.if-n-eq0.false))
+returns-in_err-tried c = fails_by _ _ _ _ c.from_residual-in_err-tried.ensures (simp (← c.in_err-tried.ensures, ← c.in_ok-require.ensures, ← c.is_within.ensures, told_rules))
+
+pub returns-in_err-require-2 : goal.returns-in_err-require-2
+unfolding polyline_due
+returns-in_err-require-2 c = fails_by _ _ _ _ c.from_residual-in_err-require-2.ensures (simp (← c.in_err-require-2.ensures, ← c.in_ok-tried.ensures, ← c.in_ok-require.ensures, ← c.is_within.ensures, told_rules))
+
+pub returns-in_err-run : goal.returns-in_err-run
+unfolding polyline_due
+returns-in_err-run c = passes _ _ _ (simp (← c.in_ok-require-2.ensures, ← c.in_ok-tried.ensures, ← c.in_ok-require.ensures, ← c.is_within.ensures, told_rules)) (stops _ _ _ c.from_residual-in_err-run.ensures (simp (met_is _ _ c.in_err-run.ensures, told_rules)))
+
+pub returns : goal.returns
+unfolding polyline_due
+returns c =
+    let r = c.in_ok-run.ensures in
+    passes _ _ _ (simp (← c.in_ok-require-2.ensures, ← c.in_ok-tried.ensures, ← c.in_ok-require.ensures, ← c.is_within.ensures, told_rules)) (simp (c.polyline_of.ensures, none_met _ _ r, value_is _ _ r, told_rules))

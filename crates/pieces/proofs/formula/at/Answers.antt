@@ -4,16 +4,10 @@ use Rattle.piece_curves.specs.PieceCurves as runs
 use Rattle.pieces.specs.Pieces.{run_c}
 use Rattle.pieces.proofs.formula.at.Goals as goal
 
-pub returns-in-Without : goal.returns-in-Without
+pub returns-in-None : goal.returns-in-None
 unfolding run_c runs.curve_c kind_c
-returns-in-Without c = record {
-  refusal = simp (c.untraced_at.ensures.refusal, c.in-Without.is, zero_first);
-  value = simp (c.untraced_at.ensures.value, c.in-Without.is);
-}
+returns-in-None c = simp (c.untraced_at.ensures, c.in-None.is, zero_first)
 
-pub returns-in-With : goal.returns-in-With
+pub returns-in-Some : goal.returns-in-Some
 unfolding run_c runs.curve_c kind_c
-returns-in-With c = record {
-  refusal = simp (c.traced_at.ensures.refusal, c.in-With.is, first_zero);
-  value = simp (c.traced_at.ensures.value, c.in-With.is);
-}
+returns-in-Some c = simp (c.traced_at.ensures, c.in-Some.is, first_zero)

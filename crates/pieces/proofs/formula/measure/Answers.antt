@@ -4,15 +4,9 @@ use Rattle.piece_curves.specs.PieceCurves as runs
 use Rattle.pieces.specs.Pieces.{run_c}
 use Rattle.pieces.proofs.formula.measure.Goals as goal
 
-pub returns-in-Without : goal.returns-in-Without
+pub returns-in-None : goal.returns-in-None
 unfolding run_c runs.curve_c kind_c
-returns-in-Without c = record {
-  refusal = simp (c.untraced_measure.ensures.refusal, c.in-Without.is, zero_first);
-  value = simp (c.untraced_measure.ensures.value, c.in-Without.is);
-}
+returns-in-None c = simp (c.untraced_measure.ensures, c.in-None.is, zero_first)
 
-pub returns-in-With : goal.returns-in-With
-returns-in-With c = record {
-  refusal = c.run_measure.ensures.refusal;
-  value = c.run_measure.ensures.value;
-}
+pub returns-in-Some : goal.returns-in-Some
+returns-in-Some c = c.run_measure.ensures

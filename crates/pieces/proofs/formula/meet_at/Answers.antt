@@ -1,13 +1,11 @@
-use Rattle.piece_curves.specs.MeetCurves.{at_c}
-use Rattle.checked.specs.Laws.{first_zero}
-use Rattle.piece_curves.specs.MeetCurvesLaws.{point_refusal, point_value}
+use Rattle.checked.specs.ToldLaws.{exit_is, none_met, value_is, met_is, rules as told_rules}
+use mathlib.Core.Path.{◌∙◌}
 use Rattle.pieces.proofs.formula.meet_at.Goals as goal
 
+pub returns-in_err-pipe : goal.returns-in_err-pipe
+returns-in_err-pipe c = exit_is _ _ c.from_residual.ensures ∙ simp (met_is _ _ c.in_err-pipe.ensures, told_rules)
+
 pub returns : goal.returns
-unfolding at_c
 returns c =
-    let m = c.motion-v.ensures in
-    record {
-      refusal = simp (c.earlier-4.ensures, c.earlier-3.ensures, c.earlier-2.ensures, c.earlier.ensures, c.placed-q.ensures.refusal, c.pipe-x.ensures.refusal, c.pipe-x.ensures.value, m.ru, m.rv, m.rq, m.q, first_zero, point_refusal);
-      value = simp (c.placed-q.ensures.value, c.pipe-x.ensures.value, m.u, m.v, m.q, point_value);
-    }
+    let p = c.in_ok-pipe.ensures in
+    simp (c.at.ensures, none_met _ _ p, value_is _ _ p, told_rules)

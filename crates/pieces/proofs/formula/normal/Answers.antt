@@ -1,9 +1,13 @@
 use Rattle.pieces.specs.Pieces.{normal_c}
+use Rattle.checked.specs.ToldLaws.{stops, none_met, value_is, met_is, rules as told_rules}
 use Rattle.pieces.proofs.formula.normal.Goals as goal
+
+pub returns-in_err-d : goal.returns-in_err-d
+unfolding normal_c
+returns-in_err-d c = stops _ _ _ c.from_residual.ensures (simp (met_is _ _ c.in_err-d.ensures, told_rules))
 
 pub returns : goal.returns
 unfolding normal_c
-returns c = record {
-  refusal = simp (c.earlier.ensures, c.normal_of-n.ensures.refusal, c.direction-x.ensures.refusal, c.direction-x.ensures.value);
-  value = simp (c.normal_of-n.ensures.value, c.direction-x.ensures.value);
-}
+returns c =
+    let d = c.in_ok-d.ensures in
+    simp (c.normal_of.ensures, none_met _ _ d, value_is _ _ d, told_rules)

@@ -5,14 +5,8 @@ use Rattle.pieces.proofs.formula.traced_at.Goals as goal
 
 pub returns-in-Wave : goal.returns-in-Wave
 unfolding traced_c at_c
-returns-in-Wave c = record {
-  refusal = simp (c.wave_at.ensures.refusal, c.in-Wave.is, zero_first);
-  value = simp (c.wave_at.ensures.value, c.in-Wave.is);
-}
+returns-in-Wave c = simp (c.wave_at.ensures, c.in-Wave.is, zero_first)
 
 pub returns-in-Meet : goal.returns-in-Meet
 unfolding traced_c meet_kind_c at_c
-returns-in-Meet c = record {
-  refusal = simp (c.meet_at.ensures.refusal, c.in-Meet.is, first_zero);
-  value = simp (c.meet_at.ensures.value, c.in-Meet.is);
-}
+returns-in-Meet c = simp (c.meet_at.ensures, c.in-Meet.is, first_zero)

@@ -2,16 +2,10 @@ use Rattle.piece_curves.specs.PieceCurves.{untraced}
 use Rattle.piece_curves.specs.Points.{at_c}
 use Rattle.pieces.proofs.formula.untraced_at.Goals as goal
 
-pub returns-in-Without : goal.returns-in-Without
+pub returns-in-None : goal.returns-in-None
 unfolding untraced at_c
-returns-in-Without c = record {
-  refusal = simp (c.straight_at.ensures.refusal, c.in-Without.is);
-  value = simp (c.straight_at.ensures.value, c.in-Without.is);
-}
+returns-in-None c = simp (c.straight_at.ensures, c.in-None.is)
 
-pub returns-in-With : goal.returns-in-With
+pub returns-in-Some : goal.returns-in-Some
 unfolding untraced at_c
-returns-in-With c = record {
-  refusal = simp (c.arc_at-p.ensures.refusal, c.in-With.is);
-  value = simp (c.arc_at-p.ensures.value, c.in-With.is);
-}
+returns-in-Some c = simp (c.arc_at.ensures, c.in-Some.is)

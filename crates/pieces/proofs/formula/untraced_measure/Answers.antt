@@ -2,16 +2,10 @@ use Rattle.piece_curves.specs.PieceCurves.{untraced}
 use Rattle.piece_lengths.specs.Measures.{measure_c}
 use Rattle.pieces.proofs.formula.untraced_measure.Goals as goal
 
-pub returns-in-Without : goal.returns-in-Without
+pub returns-in-None : goal.returns-in-None
 unfolding untraced measure_c
-returns-in-Without c = record {
-  refusal = simp (c.segment.ensures.refusal, c.in-Without.is);
-  value = simp (c.segment.ensures.value, c.in-Without.is);
-}
+returns-in-None c = simp (c.segment.ensures, c.in-None.is)
 
-pub returns-in-With : goal.returns-in-With
+pub returns-in-Some : goal.returns-in-Some
 unfolding untraced measure_c
-returns-in-With c = record {
-  refusal = simp (c.arc_measure-p.ensures.refusal, c.in-With.is);
-  value = simp (c.arc_measure-p.ensures.value, c.in-With.is);
-}
+returns-in-Some c = simp (c.arc_measure.ensures, c.in-Some.is)

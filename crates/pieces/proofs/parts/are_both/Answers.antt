@@ -1,10 +1,14 @@
-use Rattle.pieces.specs.Tests.{both}
+use Rattle.std.specs.Prelude.{◌≡◌, refl, ◌&&◌, Option, Some, None, is_some}
+use Rattle.profile_arcs.specs.declared.ProfileArc.{ProfileArc}
+use Rattle.traces.specs.declared.Trace.{Trace}
+use Rattle.pieces.specs.Tests.{is_traced, both}
 use Rattle.pieces.proofs.parts.are_both.Goals as goal
 
-pub returns-in-Without : goal.returns-in-Without
-unfolding both
-returns-in-Without c = simp c.in-Without.is
+by : (a : Option ProfileArc) (t : Option Trace) → (is_some a && is_some t) ≡ both a t
+unfolding both is_traced
+by None t = refl
+by (Some a) None = refl
+by (Some a) (Some t) = refl
 
-pub returns-in-With : goal.returns-in-With
-unfolding both
-returns-in-With c = simp (c.is_traced.ensures, c.in-With.is)
+pub returns : goal.returns
+returns c = simp (c.is_some-2.ensures, c.is_some.ensures) (by c.args.arc c.args.trace)

@@ -7,4 +7,4 @@ returns-in-Wave c = simp c.in-Wave.is
 
 pub returns-in-Meet : goal.returns-in-Meet
 unfolding curve_back
-returns-in-Meet c = simp (c.turn_back-back.ensures, c.in-Meet.is)
+returns-in-Meet c = simp (c.turn_back.ensures, c.in-Meet.is)

@@ -1,12 +1,16 @@
+use mathlib.Core.Path.{ap, ◌∙◌}
+use Rattle.checked.specs.ToldLaws.{none_met, value_is, met_is, gives, stops}
+use Rattle.integrals.specs.declared.SurfaceIntegrals.{SurfaceIntegrals}
 use Rattle.revolutions.specs.Closings.{close_c}
-use Rattle.checked.specs.Laws.{zero_first}
 use Rattle.revolutions.specs.ClosingsLaws.{close_refusal}
-use mathlib.Core.Path.{sym, ◌∙◌}
 use Rattle.revolutions.proofs.closings.joined.Goals as goal
 
+pub returns-in_err-surface : goal.returns-in_err-surface
+returns-in_err-surface c =
+    let s = simp (c.sigma.ensures, c.plus-vector.ensures, c.plus-moment.ensures) at c.in_err-surface.ensures in
+    stops _ _ _ c.from_residual.ensures (close_refusal _ _ _ ∙ (unfold close_c in met_is _ _ s))
+
 pub returns : goal.returns
-unfolding close_c
-returns c = record {
-  refusal = (simp (c.noted.ensures, c.sigma.ensures, c.plus-vector.ensures, c.plus-moment.ensures, zero_first)) ∙ sym (close_refusal c.args.acc c.args.convex c.args.sums);
-  value = simp (c.sigma.ensures, c.plus-vector.ensures, c.plus-moment.ensures);
-}
+returns c =
+    let s = simp (c.sigma.ensures, c.plus-vector.ensures, c.plus-moment.ensures) at c.in_ok-surface.ensures in
+    gives _ _ (close_refusal _ _ _ ∙ (unfold close_c in none_met _ _ s)) (unfold close_c in ap (λ (t : SurfaceIntegrals). record { surface = t }) (value_is _ _ s))

@@ -1,12 +1,16 @@
+use Rattle.std.specs.Prelude.{refl}
+use Rattle.checked.specs.ToldLaws.{none_met, value_is, met_is, follows, stops, rules as told_rules}
 use Rattle.rows.specs.Circles.{circle_c}
-use Rattle.checked.specs.Laws.{first_assoc}
 use Rattle.rows.specs.CirclesLaws.{rim_refusal}
-use mathlib.Core.Path.{sym, ◌∙◌}
 use Rattle.rows.proofs.circles.point.Goals as goal
 
+pub returns-in_err-s : goal.returns-in_err-s
+returns-in_err-s c = stops _ _ _ c.from_residual.ensures (simp (rim_refusal, met_is _ _ c.in_err-s.ensures, told_rules))
+
 pub returns : goal.returns
-unfolding circle_c
-returns c = record {
-  refusal = (simp (c.noted.ensures, c.plus-p.ensures, c.times-2.ensures, c.plus.ensures, c.times.ensures, c.sincos-s.ensures.refusal, c.sincos-s.ensures.sin, c.sincos-s.ensures.cos, first_assoc)) ∙ sym (rim_refusal c.args.rim c.args.t);
-  value = simp (c.plus-p.ensures, c.times-2.ensures, c.plus.ensures, c.times.ensures, c.sincos-s.ensures.sin, c.sincos-s.ensures.cos);
-}
+returns c =
+    let s = c.in_ok-s.ensures in
+    let p = simp (c.plus-2.ensures, c.times-2.ensures, c.plus.ensures, c.times.ensures, ← value_is _ _ s) at c.finite3.ensures in
+    follows _ _ _ _ p
+    (simp (rim_refusal, none_met _ _ s, told_rules) (unfold circle_c in refl))
+    (unfold circle_c in refl)

@@ -1,11 +1,8 @@
+use Rattle.std.specs.Prelude.{refl}
 use Rattle.rows.specs.Circles.{circle_at_c}
+use Rattle.checked.specs.ToldLaws.{follows}
 use Rattle.rows.specs.CirclesLaws.{rim_at_refusal}
-use mathlib.Core.Path.{sym, ◌∙◌}
 use Rattle.rows.proofs.circles.point_at.Goals as goal
 
 pub returns : goal.returns
-unfolding circle_at_c
-returns c = record {
-  refusal = (simp c.point.ensures.refusal) ∙ sym (rim_at_refusal c.args.rim c.args.turn c.args.n c.args.k);
-  value = simp c.point.ensures.value;
-}
+returns c = follows _ _ _ _ c.point.ensures (rim_at_refusal c.args.rim c.args.turn c.args.n c.args.k) (unfold circle_at_c in refl)

@@ -1,25 +1,24 @@
 use Rattle.surfaces.specs.Surfaces.{cone_of}
 use Rattle.surfaces.specs.Entries.{revolution_due}
-use Rattle.checked.specs.TestsLaws.{passing_none, passing_some}
-use mathlib.Core.Path.{sym}
+use Rattle.checked.specs.ToldLaws.{fails_by, passes}
 use Rattle.surfaces.proofs.Surface.revolution.Goals as goal
+
+pub returns-in_err-tried : goal.returns-in_err-tried
+unfolding revolution_due
+returns-in_err-tried c = fails_by _ _ _ _ c.from_residual.ensures c.in_err-tried.ensures
 
 pub returns-in-Plane : goal.returns-in-Plane
 unfolding revolution_due cone_of
-returns-in-Plane c = simp (c.if-n-eq0.true, passing_none, ← c.tried-n.ensures) (simp c.in-Plane.is)
+returns-in-Plane c = passes _ _ _ c.in_ok-tried.ensures (simp c.in-Plane.is)
 
 pub returns-in-Cylinder : goal.returns-in-Cylinder
 unfolding revolution_due cone_of
-returns-in-Cylinder c = simp (c.if-n-eq0.true, passing_none, ← c.tried-n.ensures) (simp c.in-Cylinder.is)
+returns-in-Cylinder c = passes _ _ _ c.in_ok-tried.ensures (simp c.in-Cylinder.is)
 
 pub returns-in-Cone : goal.returns-in-Cone
 unfolding revolution_due cone_of
-returns-in-Cone c = simp (c.if-n-eq0.true, passing_none, ← c.tried-n.ensures) (simp c.in-Cone.is)
+returns-in-Cone c = passes _ _ _ c.in_ok-tried.ensures (simp c.in-Cone.is)
 
 pub returns-in-Wall : goal.returns-in-Wall
 unfolding revolution_due cone_of
-returns-in-Wall c = simp (c.if-n-eq0.true, passing_none, ← c.tried-n.ensures) (simp c.in-Wall.is)
-
-pub returns-else-n-eq0 : goal.returns-else-n-eq0
-unfolding revolution_due cone_of
-returns-else-n-eq0 c = simp (← c.tried-n.ensures) (sym (passing_some _ _ c.if-n-eq0.false))
+returns-in-Wall c = passes _ _ _ c.in_ok-tried.ensures (simp c.in-Wall.is)

@@ -1,11 +1,13 @@
+use mathlib.Core.Path.{◌∙◌}
 use Rattle.surfaces.specs.Normals.{cylinder_c}
 use Rattle.surfaces.specs.Laws.{cylinder_refusal}
-use mathlib.Core.Path.{sym, ◌∙◌}
+use Rattle.checked.specs.ToldLaws.{stops, gives, none_met, value_is, met_is}
 use Rattle.surfaces.proofs.normals.cylinder.Goals as goal
 
+pub returns-in_err-r : goal.returns-in_err-r
+returns-in_err-r c = stops _ _ _ c.from_residual.ensures (cylinder_refusal _ _ _ _ ∙ met_is _ _ c.in_err-r.ensures)
+
 pub returns : goal.returns
-unfolding cylinder_c
-returns c = record {
-  refusal = (simp c.radial-r.ensures.refusal) ∙ sym (cylinder_refusal c.args.origin c.args.axis c.args.convex c.args.p);
-  value = simp (c.faced-n.ensures, c.radial-r.ensures.value);
-}
+returns c =
+    let r = c.in_ok-r.ensures in
+    gives _ _ (cylinder_refusal _ _ _ _ ∙ none_met _ _ r) (unfold cylinder_c in simp (value_is _ _ r, c.faced.ensures))

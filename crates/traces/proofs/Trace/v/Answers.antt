@@ -1,12 +1,20 @@
 use Rattle.traces.specs.Traces.{v_due}
-use Rattle.checked.specs.TestsLaws.{passing_none, passing_some}
-use mathlib.Core.Path.{sym}
+use Rattle.checked.specs.TestsLaws.{passing_or}
+use Rattle.checked.specs.ToldLaws.{fails_by, passes}
 use Rattle.traces.proofs.Trace.v.Goals as goal
 
-pub returns-then-t-eq0 : goal.returns-then-t-eq0
+pub returns-in_err-require : goal.returns-in_err-require
 unfolding v_due
-returns-then-t-eq0 c = simp (c.v_by_formula.ensures, c.if-t-eq0.true, passing_none, ← c.earlier-t.ensures, ← c.tried_neutral.ensures, ← c.fails-t.ensures, ← c.is_within-2.ensures, ← c.is_within.ensures, ← c.is_within_limit.ensures)
+returns-in_err-require c = simp passing_or (fails_by _ _ _ _ c.from_residual.ensures (simp (c.is_within-2.ensures, c.is_within.ensures, c.is_within_limit.ensures) at c.in_err-require.ensures))
 
-pub returns-else-t-eq0 : goal.returns-else-t-eq0
+pub returns-in_err-require_neutral : goal.returns-in_err-require_neutral
 unfolding v_due
-returns-else-t-eq0 c = simp (← c.earlier-t.ensures, ← c.tried_neutral.ensures, ← c.fails-t.ensures, ← c.is_within-2.ensures, ← c.is_within.ensures, ← c.is_within_limit.ensures) (sym (passing_some _ _ c.if-t-eq0.false))
+returns-in_err-require_neutral c =
+    let t = simp (c.is_within-2.ensures, c.is_within.ensures, c.is_within_limit.ensures) at c.in_ok-require.ensures in
+    simp passing_or (passes _ _ _ t (fails_by _ _ _ _ c.from_residual-in_err-require_neutral.ensures c.in_err-require_neutral.ensures))
+
+pub returns : goal.returns
+unfolding v_due
+returns c =
+    let t = simp (c.is_within-2.ensures, c.is_within.ensures, c.is_within_limit.ensures) at c.in_ok-require.ensures in
+    simp passing_or (passes _ _ _ t (passes _ _ _ c.in_ok-require_neutral.ensures c.v_by_formula.ensures))

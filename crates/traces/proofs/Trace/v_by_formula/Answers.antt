@@ -1,10 +1,16 @@
 use Rattle.traces.specs.Traces.{v_c}
-use Rattle.checked.specs.Laws.{rules as checked_rules}
+use Rattle.checked.specs.Laws.{first_zero}
+use Rattle.checked.specs.ToldLaws.{exit_is, none_met, value_is, met_is, rules as told_rules}
+use mathlib.Core.Path.{◌∙◌}
 use Rattle.traces.proofs.Trace.v_by_formula.Goals as goal
 
-pub returns-in-Wave : goal.returns-in-Wave
+pub returns-in_err-v-in-Wave : goal.returns-in_err-v-in-Wave
 unfolding v_c
-returns-in-Wave c = simp (c.settle.ensures, c.v.ensures.refusal, c.v.ensures.value, c.in-Wave.is, checked_rules)
+returns-in_err-v-in-Wave c = exit_is _ _ c.from_residual.ensures ∙ simp (c.in-Wave.is, met_is _ _ c.in_err-v-in-Wave.ensures, told_rules)
+
+pub returns-in_ok-v-in-Wave : goal.returns-in_ok-v-in-Wave
+unfolding v_c
+returns-in_ok-v-in-Wave c = simp (c.in-Wave.is, none_met _ _ c.in_ok-v-in-Wave.ensures, value_is _ _ c.in_ok-v-in-Wave.ensures, first_zero, told_rules)
 
 pub returns-in-Meet : goal.returns-in-Meet
 unfolding v_c

@@ -1,13 +1,12 @@
 use Rattle.vectors.specs.Entries.{difference_due}
 use Rattle.vectors.specs.Laws.{rules as vectors_rules}
-use Rattle.checked.specs.TestsLaws.{passing_none, passing_some}
-use mathlib.Core.Path.{sym}
+use Rattle.checked.specs.ToldLaws.{fails_by, passes}
 use Rattle.vectors.proofs.Vec3.difference.Goals as goal
 
-pub returns-then-t-eq0 : goal.returns-then-t-eq0
+pub returns-in_err-require : goal.returns-in_err-require
 unfolding difference_due
-returns-then-t-eq0 c = simp (c.tried.ensures, c.minus.ensures, c.if-t-eq0.true, passing_none, ← c.fails-t.ensures, ← c.are_within.ensures, vectors_rules)
+returns-in_err-require c = fails_by _ _ _ _ c.from_residual.ensures (simp c.are_within.ensures at c.in_err-require.ensures)
 
-pub returns-else-t-eq0 : goal.returns-else-t-eq0
+pub returns : goal.returns
 unfolding difference_due
-returns-else-t-eq0 c = simp (← c.fails-t.ensures, ← c.are_within.ensures) (sym (passing_some _ _ c.if-t-eq0.false))
+returns c = passes _ _ _ (simp c.are_within.ensures at c.in_ok-require.ensures) (simp (c.finite3.ensures, c.minus.ensures, vectors_rules))

@@ -1,15 +1,15 @@
-use Rattle.vectors.specs.Entries.{dominant_axis_due}
-use Rattle.checked.specs.TestsLaws.{passing_none, passing_some}
+use mathlib.Core.Path.{◌∙◌, ap}
 use Rattle.checked.specs.Checked.{due}
-use mathlib.Core.Path.{sym, ◌∙◌, ap}
+use Rattle.vectors.specs.Entries.{dominant_axis_due}
+use Rattle.checked.specs.ToldLaws.{fails_by, passes}
 use Rattle.vectors.proofs.Vec3.dominant_axis.Goals as goal
 
-pub returns-then-t-eq0 : goal.returns-then-t-eq0
+pub returns-in_err-require : goal.returns-in_err-require
 unfolding dominant_axis_due
-returns-then-t-eq0 c =
-    simp (c.if-t-eq0.true, passing_none, ← c.fails-t.ensures, ← c.is_within3.ensures)
-    (ap due (c.largest.ensures ∙ simp (c.fabs-then-t-eq0-2.ensures, c.fabs-then-t-eq0.ensures, c.fabs.ensures)))
+returns-in_err-require c = fails_by _ _ _ _ c.from_residual.ensures (simp c.is_within3.ensures at c.in_err-require.ensures)
 
-pub returns-else-t-eq0 : goal.returns-else-t-eq0
+pub returns : goal.returns
 unfolding dominant_axis_due
-returns-else-t-eq0 c = simp (← c.fails-t.ensures, ← c.is_within3.ensures) (sym (passing_some _ _ c.if-t-eq0.false))
+returns c =
+    passes _ _ _ (simp c.is_within3.ensures at c.in_ok-require.ensures)
+    (ap due (c.largest.ensures ∙ simp (c.fabs-3.ensures, c.fabs-2.ensures, c.fabs.ensures)))

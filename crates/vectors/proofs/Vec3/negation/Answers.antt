@@ -1,13 +1,12 @@
 use Rattle.vectors.specs.Entries.{negation_due}
 use Rattle.vectors.specs.Laws.{rules as vectors_rules}
-use Rattle.checked.specs.TestsLaws.{passing_none, passing_some}
-use mathlib.Core.Path.{sym}
+use Rattle.checked.specs.ToldLaws.{fails_by, passes}
 use Rattle.vectors.proofs.Vec3.negation.Goals as goal
 
-pub returns-then-t-eq0 : goal.returns-then-t-eq0
+pub returns-in_err-require : goal.returns-in_err-require
 unfolding negation_due
-returns-then-t-eq0 c = simp (c.tried.ensures, c.neg.ensures, c.if-t-eq0.true, passing_none, ← c.fails-t.ensures, ← c.is_within3.ensures, vectors_rules)
+returns-in_err-require c = fails_by _ _ _ _ c.from_residual.ensures (simp c.is_within3.ensures at c.in_err-require.ensures)
 
-pub returns-else-t-eq0 : goal.returns-else-t-eq0
+pub returns : goal.returns
 unfolding negation_due
-returns-else-t-eq0 c = simp (← c.fails-t.ensures, ← c.is_within3.ensures) (sym (passing_some _ _ c.if-t-eq0.false))
+returns c = passes _ _ _ (simp c.is_within3.ensures at c.in_ok-require.ensures) (simp (c.finite3.ensures, c.neg.ensures, vectors_rules))

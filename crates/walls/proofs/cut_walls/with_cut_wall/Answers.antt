@@ -1,12 +1,11 @@
-use mathlib.Core.Path.{sym}
-use Rattle.checked.specs.TestsLaws.{passing_none, passing_some}
+use Rattle.checked.specs.ToldLaws.{fails_by, passes}
 use Rattle.walls.specs.Entries.{wall_due}
 use Rattle.walls.proofs.cut_walls.with_cut_wall.Goals as goal
 
-pub returns-then-t-eq0 : goal.returns-then-t-eq0
+pub returns-in_err-require_wall : goal.returns-in_err-require_wall
 unfolding wall_due
-returns-then-t-eq0 c = simp (c.settle.ensures, c.over.ensures.refusal, c.over.ensures.value, c.if-t-eq0.true, passing_none, ← c.tried_wall-t.ensures)
+returns-in_err-require_wall c = fails_by _ _ _ _ c.from_residual.ensures c.in_err-require_wall.ensures
 
-pub returns-else-t-eq0 : goal.returns-else-t-eq0
+pub returns : goal.returns
 unfolding wall_due
-returns-else-t-eq0 c = simp (← c.tried_wall-t.ensures) (sym (passing_some _ _ c.if-t-eq0.false))
+returns c = passes _ _ _ c.in_ok-require_wall.ensures c.over.ensures

@@ -1,9 +1,40 @@
 use Rattle.waves.specs.TurningPoints.{range_c}
+use Rattle.checked.specs.ToldLaws.{stops, follows, none_met, value_is, met_is, rules as told_rules}
 use Rattle.waves.proofs.turning_points.range.Goals as goal
 
+pub returns-in_err-x : goal.returns-in_err-x
+returns-in_err-x c =
+    let x = simp c.least-lo.ensures at c.in_err-x.ensures in
+    stops _ _ _ c.from_residual.ensures (unfold range_c in simp (met_is _ _ x, told_rules))
+
+pub returns-in_err-y : goal.returns-in_err-y
+returns-in_err-y c =
+    let x = simp c.least-lo.ensures at c.in_ok-x.ensures in
+    let y = simp c.greatest-hi.ensures at c.in_err-y.ensures in
+    stops _ _ _ c.from_residual-in_err-y.ensures (unfold range_c in simp (none_met _ _ x, met_is _ _ y, told_rules))
+
+pub returns-in_err-t : goal.returns-in_err-t
+returns-in_err-t c =
+    let x = simp c.least-lo.ensures at c.in_ok-x.ensures in
+    let y = simp c.greatest-hi.ensures at c.in_ok-y.ensures in
+    let t = simp c.greatest-hi.ensures at c.in_err-t.ensures in
+    stops _ _ _ c.from_residual-in_err-t.ensures (unfold range_c in simp (none_met _ _ x, none_met _ _ y, met_is _ _ t, told_rules))
+
+pub returns-in_err-k : goal.returns-in_err-k
+returns-in_err-k c =
+    let x = simp c.least-lo.ensures at c.in_ok-x.ensures in
+    let y = simp c.greatest-hi.ensures at c.in_ok-y.ensures in
+    let t = simp c.greatest-hi.ensures at c.in_ok-t.ensures in
+    let k = simp c.least-lo.ensures at c.in_err-k.ensures in
+    stops _ _ _ c.from_residual-in_err-k.ensures (unfold range_c in simp (none_met _ _ x, none_met _ _ y, none_met _ _ t, value_is _ _ t, met_is _ _ k, told_rules))
+
 pub returns : goal.returns
-unfolding range_c
-returns c = record {
-  refusal = simp (c.earlier-4.ensures, c.earlier-3.ensures, c.earlier-2.ensures, c.earlier.ensures, c.turns-o.ensures.refusal, c.greatest.ensures, c.least.ensures, c.start-k.ensures.refusal, c.start-k.ensures.value, c.turning_of-z.ensures.refusal, c.turning_of-z.ensures.value, c.v-y.ensures.refusal, c.v-y.ensures.value, c.v-x.ensures.refusal, c.v-x.ensures.value, c.greatest-hi.ensures, c.least-lo.ensures);
-  value = simp (c.turns-o.ensures.value, c.greatest.ensures, c.least.ensures, c.start-k.ensures.value, c.turning_of-z.ensures.value, c.v-y.ensures.value, c.v-x.ensures.value, c.greatest-hi.ensures, c.least-lo.ensures);
-}
+returns c =
+    let x = simp c.least-lo.ensures at c.in_ok-x.ensures in
+    let y = simp c.greatest-hi.ensures at c.in_ok-y.ensures in
+    let t = simp c.greatest-hi.ensures at c.in_ok-t.ensures in
+    let k = simp c.least-lo.ensures at c.in_ok-k.ensures in
+    let o = simp (c.greatest.ensures, c.least.ensures) at c.turns.ensures in
+    follows _ _ _ _ o
+    (unfold range_c in simp (none_met _ _ x, value_is _ _ x, none_met _ _ y, value_is _ _ y, none_met _ _ t, value_is _ _ t, none_met _ _ k, value_is _ _ k, told_rules))
+    (unfold range_c in simp (value_is _ _ x, value_is _ _ y, value_is _ _ t, value_is _ _ k))

@@ -1,12 +1,10 @@
+use mathlib.Core.Path.{refl}
 use Rattle.waves.specs.TurningPoints.{start_c}
-use Rattle.checked.specs.Laws.{zero_first}
+use Rattle.checked.specs.ToldLaws.{follows}
 use Rattle.waves.specs.TurningPointsLaws.{start_refusal}
-use mathlib.Core.Path.{sym, ◌∙◌}
 use Rattle.waves.proofs.turning_points.start.Goals as goal
 
 pub returns : goal.returns
-unfolding start_c
-returns c = record {
-  refusal = (simp (c.note.ensures, c.ceil-k.ensures, zero_first)) ∙ sym (start_refusal c.args.t c.args.lo);
-  value = simp c.ceil-k.ensures;
-}
+returns c =
+    let k = simp c.ceil.ensures at c.finite.ensures in
+    follows _ _ _ _ k (simp start_refusal (unfold start_c in refl)) (unfold start_c in refl)

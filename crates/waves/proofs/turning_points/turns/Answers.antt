@@ -1,51 +1,86 @@
-use mathlib.Core.Path.{◌∙◌, ap}
+use Rattle.std.specs.Prelude.{suc, ◌+◌, ◌-◌, ◌≡◌}
+use mathlib.Core.Path.{sym, ap, ◌∙◌}
 use native.Mathlib.Omega.{arith}
 use Rattle.checked.specs.Refusals.{COUNT_TOO_LARGE}
-use Rattle.checked.specs.Laws.{first_zero}
-use Rattle.checked.specs.LoopsLaws.{remains_whole, remains_more, remains_none, remains_over}
+use Rattle.checked.specs.Checked.{Checked}
+use Rattle.checked.specs.ToldLaws.{settled_number, stops, none_met, value_is, met_is, rules as told_rules}
+use Rattle.checked.specs.declared.Refusal.TheVariants as refusal
 use Rattle.waves.specs.declared.turning_points.RangeSoFar.{RangeSoFar}
-use Rattle.waves.specs.TurningPoints.{inside_c, taken_c, turns_c}
-use Rattle.waves.specs.TurningPointsLaws.{inside_value, inside_refusal, step_refusal}
+use Rattle.waves.specs.TurningPoints.{TURNING_POINTS, inside_c, taken_c}
+use Rattle.waves.specs.TurningPointsLaws.{inside_value, inside_refusal, taken_refusal, taken_value, turns_refuses, turns_gives}
+use Rattle.checked.specs.LoopsLaws.{goes_on, ends, is_over, step_refuses, test_refuses}
 use Rattle.waves.proofs.turning_points.turns.Goals as goal
 
-pub loop-k-init : goal.loop-k-init
-loop-k-init c = remains_whole _
-
-pub returns-then-left-eq0 : goal.returns-then-left-eq0
-unfolding turns_c
-returns-then-left-eq0 c =
-    let at = c.loop-k in
+pub returns-in_err-p : goal.returns-in_err-p
+returns-in_err-p c =
     let t = c.args.t in
-    let s : RangeSoFar = record { k = at.k; low = at.low; high = at.high } in
-    let d = remains_over COUNT_TOO_LARGE (inside_c t) (taken_c t) s at.r at.left _ at.invariant c.if-left-eq0.true (inside_value t s ∙ c.loop-k-test.true) in
-    record {
-      refusal = simp (c.earlier.ensures, c.note.ensures, first_zero) (rw (inside_refusal t s) at d.refusal);
-      value = ap (λ (s : RangeSoFar). record { low = s.low; high = s.high }) d.value;
-    }
+    let s = c.loop.s in
+    let met = inside_refusal t s ∙ met_is _ _ c.in_err-p.ensures in
+    stops _ _ _ c.from_residual.ensures (turns_refuses t _ _ _ _ s c.loop.invariant _ (test_refuses COUNT_TOO_LARGE _ (inside_c t) (taken_c t) s _ met))
 
-pub overflow_sub-left : goal.overflow_sub-left
-overflow_sub-left c = omega arith
-
-pub loop-k-smaller : goal.loop-k-smaller
-loop-k-smaller c = omega arith
-
-pub loop-k-preserved : goal.loop-k-preserved
-unfolding taken_c
-loop-k-preserved c =
-    let at = c.loop-k in
+pub returns-then-not-p-t : goal.returns-then-not-p-t
+returns-then-not-p-t c =
     let t = c.args.t in
-    let s : RangeSoFar = record { k = at.k; low = at.low; high = at.high } in
-    let d = remains_more COUNT_TOO_LARGE (inside_c t) (taken_c t) s at.r at.left _ at.invariant c.if-left-eq0.false (inside_value t s ∙ c.loop-k-test.true) in
-    simp (c.note-r.ensures, c.earlier-in-loop-k.ensures, c.greatest-high.ensures, c.least-low.ensures, c.v-x.ensures.refusal, c.v-x.ensures.value) (rw (step_refusal t s at.r) at d)
+    let s = c.loop.s in
+    let none = inside_refusal t s ∙ none_met _ _ c.in_ok-p.ensures in
+    let h = inside_value t s ∙ simp (value_is _ _ c.in_ok-p.ensures) c.if-not-p-t.true in
+    turns_gives t _ _ _ _ s c.loop.invariant (ends COUNT_TOO_LARGE (inside_c t) (taken_c t) s none _ h)
 
-pub returns : goal.returns
-unfolding turns_c
-returns c =
-    let at = c.loop-k in
+pub returns-in_err-x : goal.returns-in_err-x
+returns-in_err-x c =
     let t = c.args.t in
-    let s : RangeSoFar = record { k = at.k; low = at.low; high = at.high } in
-    let d = remains_none COUNT_TOO_LARGE (inside_c t) (taken_c t) s at.r at.left _ at.invariant (inside_value t s ∙ c.loop-k-test.false) in
-    record {
-      refusal = simp (c.note-2.ensures, first_zero) (rw (inside_refusal t s) at d.refusal);
-      value = ap (λ (s : RangeSoFar). record { low = s.low; high = s.high }) d.value;
-    }
+    let s = c.loop.s in
+    let more : TURNING_POINTS - c.loop.counter ≡ suc (TURNING_POINTS - (c.loop.counter + 1)) = omega arith in
+    let none = inside_refusal t s ∙ none_met _ _ c.in_ok-p.ensures in
+    let h = inside_value t s ∙ simp (value_is _ _ c.in_ok-p.ensures) c.if-not-p-t.false in
+    let x = simp (← value_is _ _ c.in_ok-p.ensures) at c.in_err-x.ensures in
+    let met = taken_refusal t s ∙ simp (met_is _ _ x, told_rules) in
+    stops _ _ _ c.from_residual-in_err-x.ensures (turns_refuses t _ _ _ _ s (rw more at c.loop.invariant) _ (step_refuses COUNT_TOO_LARGE (inside_c t) (taken_c t) s none _ _ h met))
+
+pub returns-in_err-next : goal.returns-in_err-next
+returns-in_err-next c =
+    let t = c.args.t in
+    let s = c.loop.s in
+    let more : TURNING_POINTS - c.loop.counter ≡ suc (TURNING_POINTS - (c.loop.counter + 1)) = omega arith in
+    let none = inside_refusal t s ∙ none_met _ _ c.in_ok-p.ensures in
+    let h = inside_value t s ∙ simp (value_is _ _ c.in_ok-p.ensures) c.if-not-p-t.false in
+    let x = simp (← value_is _ _ c.in_ok-p.ensures) at c.in_ok-x.ensures in
+    let met = taken_refusal t s ∙ simp (none_met _ _ x, met_is _ _ c.in_err-next.ensures, told_rules) in
+    stops _ _ _ c.from_residual-in_err-next.ensures (turns_refuses t _ _ _ _ s (rw more at c.loop.invariant) _ (step_refuses COUNT_TOO_LARGE (inside_c t) (taken_c t) s none _ _ h met))
+
+pub loop-preserved : goal.loop-preserved
+loop-preserved c =
+    let t = c.args.t in
+    let s = c.loop.s in
+    let more : TURNING_POINTS - c.loop.counter ≡ suc (TURNING_POINTS - (c.loop.counter + 1)) = omega arith in
+    let none = inside_refusal t s ∙ none_met _ _ c.in_ok-p.ensures in
+    let h = inside_value t s ∙ simp (value_is _ _ c.in_ok-p.ensures) c.if-not-p-t.false in
+    let x = simp (← value_is _ _ c.in_ok-p.ensures) at c.in_ok-x.ensures in
+    let met = taken_refusal t s ∙ simp (none_met _ _ x, none_met _ _ c.in_ok-next.ensures, told_rules) in
+    let next = sym (goes_on COUNT_TOO_LARGE (inside_c t) (taken_c t) s none (TURNING_POINTS - (c.loop.counter + 1)) h met) ∙ rw more at c.loop.invariant in
+    simp (c.greatest.ensures, c.least.ensures, ← value_is _ _ c.in_ok-next.ensures, ← value_is _ _ x) (simp taken_value at next)
+
+pub returns-in_err-p-2 : goal.returns-in_err-p-2
+returns-in_err-p-2 c =
+    let t = c.args.t in
+    let s = c.loop.s in
+    let met = inside_refusal t s ∙ met_is _ _ c.in_err-p-2.ensures in
+    stops _ _ _ c.from_residual-in_err-p-2.ensures (turns_refuses t _ _ _ _ s c.loop.invariant _ (test_refuses COUNT_TOO_LARGE _ (inside_c t) (taken_c t) s _ met))
+
+pub returns-then-p-t : goal.returns-then-p-t
+returns-then-p-t c =
+    let t = c.args.t in
+    let s = c.loop.s in
+    let done : TURNING_POINTS - c.loop.counter ≡ 0 = omega arith in
+    let none = inside_refusal t s ∙ none_met _ _ c.in_ok-p-2.ensures in
+    let h = inside_value t s ∙ simp (value_is _ _ c.in_ok-p-2.ensures) c.if-p-t.true in
+    let over = is_over COUNT_TOO_LARGE (inside_c t) (taken_c t) s none h in
+    sym (rw (turns_refuses t _ _ _ _ s (rw done at c.loop.invariant) _ (ap (λ (w : Checked RangeSoFar). w.refusal) over)) (settled_number refusal.CountTooLarge _))
+
+pub returns-else-p-t : goal.returns-else-p-t
+returns-else-p-t c =
+    let t = c.args.t in
+    let s = c.loop.s in
+    let none = inside_refusal t s ∙ none_met _ _ c.in_ok-p-2.ensures in
+    let h = inside_value t s ∙ simp (value_is _ _ c.in_ok-p-2.ensures) c.if-p-t.false in
+    turns_gives t _ _ _ _ s c.loop.invariant (ends COUNT_TOO_LARGE (inside_c t) (taken_c t) s none _ h)
