@@ -8,6 +8,7 @@ ghost use Rattle.rows.specs.Rows.{Drawn};
 ghost use Rattle.rows.specs.Circles.{circle_at_c};
 ghost use Rattle.arcs.specs.Chords.{chord_within, cut_c, inners_due};
 
+use crate::Arc;
 use crate::points::rim;
 use crate::sweep::{ends_within, sweep};
 use checked::{Refusal, TAU, finite, is_within};
@@ -25,41 +26,28 @@ pub struct Cut {
 }
 
 // Every number of an arc, of its ends and of a chord passes the test of what is handed in.
-pub fn chord_within(center: Vec3, axis: Vec3, radius: f64, from: Vec3, to: Vec3, chord: f64) -> bool
-    ensures { result ≡ chord_within center axis radius from to chord }
+#[tactic(auto, unfolding(crate::specs::Chords::chord_within))]
+pub fn chord_within(arc: Arc, from: Vec3, to: Vec3, chord: f64) -> bool
+    ensures { result ≡ chord_within arc.center arc.axis arc.radius from to chord }
 {
-    ends_within(center, axis, radius, from, to) & is_within(chord)
+    ends_within(arc, from, to) & is_within(chord)
 }
 
-pub fn cut_up(
-    center: Vec3,
-    axis: Vec3,
-    radius: f64,
-    from: Vec3,
-    to: Vec3,
-    chord: f64,
-) -> Result<Cut, Refusal>
-    ensures { told result ≡ answered (cut_c center axis radius from to chord) }
+pub fn cut_up(arc: Arc, from: Vec3, to: Vec3, chord: f64) -> Result<Cut, Refusal>
+    ensures { told result ≡ answered (cut_c arc.center arc.axis arc.radius from to chord) }
 {
-    let turn = sweep(center, axis, from, to)?;
+    let turn = sweep(arc, from, to)?;
     let h = finite(turn / TAU)?;
-    let p = per_turn(radius, chord)?;
+    let p = per_turn(arc.radius, chord)?;
     let chords = count(h * p, 1.0, MOST)?;
     Ok(Cut { turn, chords })
 }
 
 // The inner points of a cut arc, written from the row's start.
-pub fn write_points(
-    center: Vec3,
-    axis: Vec3,
-    radius: f64,
-    from: Vec3,
-    cut: Cut,
-    row: &mut [f64],
-) -> Result<u16, Refusal>
-    ensures { Drawn (inners_due center axis radius from cut (length row.old)) row.old row.new (told result) }
+pub fn write_points(arc: Arc, from: Vec3, cut: Cut, row: &mut [f64]) -> Result<u16, Refusal>
+    ensures { Drawn (inners_due arc.center arc.axis arc.radius from cut (length row.old)) row.old row.new (told result) }
 {
-    let rim = rim(center, axis, radius, from);
+    let rim = rim(arc, from);
     write(
         row,
         cut.chords.saturating_sub(1),

@@ -1,5 +1,4 @@
-// An arc's formulas on numbers of any size; those of its sweep, points and box are in the crates
-// below, on its parts.
+// An arc run the other way, on numbers of any size.
 ghost use Rattle.std.specs.Prelude.{◌≡◌};
 ghost use Rattle.checked.specs.Checked.{answered};
 ghost use Rattle.checked.specs.Told.{told};

@@ -1,6 +1,6 @@
-// The arc of an edge: what a program may call. The formulas are in `sweep`, `points`,
-// `extremes` and `chords`, on the parts of an arc.
-#![tactic(auto)]
+// The arc of an edge: what a program may call. The formulas are in `sweep`, `points`, `extremes`,
+// `chords` and `formula`.
+#![tactic(auto, using(checked::specs::ToldLaws::exit_is, checked::specs::ToldLaws::passing_number, checked::specs::ToldLaws::passes), unfolding(crate::specs::Entries::reversed_due, crate::specs::Entries::sweep_due, crate::specs::Entries::at_due))]
 
 ghost use Rattle.std.specs.Prelude.{◌≡◌, length};
 ghost use Rattle.checked.specs.Told.{told, failed};
@@ -34,10 +34,7 @@ impl Arc {
     pub fn reversed(self) -> Result<Arc, Refusal>
         ensures { told result ≡ reversed_due self }
     {
-        require(
-            circle_within(self.center, self.axis, self.radius),
-            Refusal::OutOfRange,
-        )?;
+        require(circle_within(self), Refusal::OutOfRange)?;
         formula::reversed(self)
     }
 
@@ -46,35 +43,27 @@ impl Arc {
     pub fn sweep(self, from: Vec3, to: Vec3) -> Result<f64, Refusal>
         ensures { told result ≡ sweep_due self from to }
     {
-        require(
-            ends_within(self.center, self.axis, self.radius, from, to),
-            Refusal::OutOfRange,
-        )?;
-        sweep::sweep(self.center, self.axis, from, to)
+        require(ends_within(self, from, to), Refusal::OutOfRange)?;
+        sweep::sweep(self, from, to)
     }
 
     // The point at the angle t from `from`, counterclockwise about the axis.
     pub fn at(self, from: Vec3, t: f64) -> Result<Vec3, Refusal>
         ensures { told result ≡ at_due self from t }
     {
-        require(
-            angle_within(self.center, self.axis, self.radius, from, t),
-            Refusal::OutOfRange,
-        )?;
-        points::at(self.center, self.axis, self.radius, from, t)
+        require(angle_within(self, from, t), Refusal::OutOfRange)?;
+        points::at(self, from, t)
     }
 
     // The box widened by the arc from one point to another: both ends, and the points extreme along
     // an axis that lie on it.
+    #[tactic(auto, using(checked::specs::ToldLaws::exit_is, checked::specs::ToldLaws::passing_number, checked::specs::ToldLaws::passes, checked::specs::TestsLaws::passing_or, boxes::proofs::Laws::call_is), unfolding(crate::specs::Entries::extend_due))]
     pub fn extended(self, from: Vec3, to: Vec3, bounds: Bounds) -> Result<Bounds, Refusal>
         ensures { told result ≡ extend_due self from to bounds }
     {
-        require(
-            ends_within(self.center, self.axis, self.radius, from, to),
-            Refusal::OutOfRange,
-        )?;
+        require(ends_within(self, from, to), Refusal::OutOfRange)?;
         require(bounds.is_free(), Refusal::BadBoxOrSums)?;
-        extremes::extended(self.center, self.axis, self.radius, from, to, bounds)
+        extremes::extended(self, from, to, bounds)
     }
 
     // The lent box widened by the arc; a refusal leaves it as it was.
@@ -98,12 +87,9 @@ impl Arc {
     ) -> Result<u16, Refusal>
         ensures { Drawn (inner_points_due self from to chord (length row.old)) row.old row.new (told result) }
     {
-        require_drawing(
-            chord_within(self.center, self.axis, self.radius, from, to, chord),
-            chord,
-        )?;
-        let cut = cut_up(self.center, self.axis, self.radius, from, to, chord)?;
-        write_points(self.center, self.axis, self.radius, from, cut, row)
+        require_drawing(chord_within(self, from, to, chord), chord)?;
+        let cut = cut_up(self, from, to, chord)?;
+        write_points(self, from, cut, row)
     }
 
     // The same; the answer is the written part of the row.

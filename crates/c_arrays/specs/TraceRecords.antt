@@ -6,8 +6,7 @@ use Rattle.meets.specs.declared.generatrix.Jet as reaches
 use Rattle.waves.specs.declared.Wave.{Wave}
 use Rattle.waves.specs.declared.values.Jet.{Jet}
 use Rattle.waves.specs.declared.turning_points.Span.{Span}
-use Rattle.meets.specs.declared.Turn.{Turn}
-use Rattle.meets.specs.declared.Turn.TheVariants as turn
+use Rattle.meets.specs.declared.Angles.{Angles}
 use Rattle.meets.specs.declared.Meet.{Meet}
 use Rattle.traces.specs.declared.Trace.{Trace}
 use Rattle.traces.specs.declared.Trace.TheVariants as trace
@@ -26,8 +25,8 @@ unfoldable pub is_turn : ℕ → Bool
 is_turn tag = leb tag 1
 
 -- the two angles of `turn` count where the tag is not 0
-abbrev pub turn_of : ℕ → Float → Float → Turn
-turn_of tag from to = cond (eqb tag 0) turn.Without (turn.Angles from to)
+abbrev pub turn_of : ℕ → Float → Float → Option Angles
+turn_of tag from to = cond (eqb tag 0) None (Some (record { from = from; to = to }))
 
 -- origin, axis, radius, own, the two angles
 abbrev pub meet_at : List Float → ℕ → ℕ → Meet

@@ -3,7 +3,7 @@ ghost use Rattle.std.specs.Prelude.{◌≡◌, ◌≤◌, length};
 ghost use Rattle.c_arrays.specs.Records.{over};
 ghost use Rattle.c_arrays.specs.ArcRecords.{rigid, arc, bounds, of_arc};
 
-use crate::vec3_at;
+use crate::{put_vec3, vec3_at};
 use arcs::Arc;
 use boxes::Bounds;
 use motions::{Rigid, Rows};
@@ -31,12 +31,8 @@ pub fn put_arc(a: Arc, out: &mut [f64])
     requires { 7 ≤ length out.old }
     ensures { out.new ≡ over out.old 0 (of_arc a) }
 {
-    out[0] = a.center.x;
-    out[1] = a.center.y;
-    out[2] = a.center.z;
-    out[3] = a.axis.x;
-    out[4] = a.axis.y;
-    out[5] = a.axis.z;
+    put_vec3(a.center, out, 0);
+    put_vec3(a.axis, out, 3);
     out[6] = a.radius;
 }
 

@@ -3,7 +3,7 @@ ghost use Rattle.std.specs.Prelude.{◌≡◌, ◌+◌, ◌≤◌, length};
 ghost use Rattle.c_arrays.specs.Records.{over};
 ghost use Rattle.c_arrays.specs.DevelopmentRecords.{development_at, development, of_development};
 
-use crate::vec3_at;
+use crate::{put_vec3, vec3_at};
 use developments::Development;
 
 // The development whose ten numbers stand from place k on.
@@ -30,14 +30,8 @@ pub fn put_development(d: Development, out: &mut [f64])
     requires { 10 ≤ length out.old }
     ensures { out.new ≡ over out.old 0 (of_development d) }
 {
-    out[0] = d.origin.x;
-    out[1] = d.origin.y;
-    out[2] = d.origin.z;
-    out[3] = d.axis.x;
-    out[4] = d.axis.y;
-    out[5] = d.axis.z;
-    out[6] = d.start.x;
-    out[7] = d.start.y;
-    out[8] = d.start.z;
+    put_vec3(d.origin, out, 0);
+    put_vec3(d.axis, out, 3);
+    put_vec3(d.start, out, 6);
     out[9] = d.neutral;
 }

@@ -3,7 +3,7 @@ ghost use Rattle.std.specs.Prelude.{◌≡◌, ◌≤◌, length};
 ghost use Rattle.c_arrays.specs.Records.{over};
 ghost use Rattle.c_arrays.specs.FaceRecords.{cone, frame, sums, of_cone};
 
-use crate::vec3_at;
+use crate::{put_vec3, vec3_at};
 use cones::{Cone, Frame};
 use integrals::{Integrals, SurfaceIntegrals};
 
@@ -32,12 +32,8 @@ pub fn put_cone(c: Cone, out: &mut [f64])
     requires { 8 ≤ length out.old }
     ensures { out.new ≡ over out.old 0 (of_cone c) }
 {
-    out[0] = c.origin.x;
-    out[1] = c.origin.y;
-    out[2] = c.origin.z;
-    out[3] = c.axis.x;
-    out[4] = c.axis.y;
-    out[5] = c.axis.z;
+    put_vec3(c.origin, out, 0);
+    put_vec3(c.axis, out, 3);
     out[6] = c.radius;
     out[7] = c.slope;
 }

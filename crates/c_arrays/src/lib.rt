@@ -1,8 +1,8 @@
 // Records as arrays of numbers: vectors. Crate c_shapes stores what is answered.
-#![tactic(auto)]
+#![tactic(auto, unfolding(crate::specs::Records::over))]
 
 ghost use Rattle.std.specs.Prelude.{◌≡◌, ◌+◌, ◌≤◌, length};
-ghost use Rattle.c_arrays.specs.Records.{vec2_at, vec3_at, vec2, vec3};
+ghost use Rattle.c_arrays.specs.Records.{over, vec2_at, vec3_at, vec2, vec3, of_vec2, of_vec3};
 
 use vectors::{Vec2, Vec3};
 
@@ -48,4 +48,22 @@ pub fn vec3_of(a: &[f64; 3]) -> Vec3
     ensures { result ≡ vec3 a.now }
 {
     vec3_at(a, 0)
+}
+
+// ---- the same numbers put from place k on
+pub fn put_vec2(p: Vec2, out: &mut [f64], k: usize)
+    requires { k + 2 ≤ length out.old }
+    ensures { out.new ≡ over out.old k (of_vec2 p) }
+{
+    out[k] = p.x;
+    out[k + 1] = p.y;
+}
+
+pub fn put_vec3(v: Vec3, out: &mut [f64], k: usize)
+    requires { k + 3 ≤ length out.old }
+    ensures { out.new ≡ over out.old k (of_vec3 v) }
+{
+    out[k] = v.x;
+    out[k + 1] = v.y;
+    out[k + 2] = v.z;
 }

@@ -1,10 +1,12 @@
 // Records as arrays of numbers: waves, meets, traces.
+#![tactic(auto, unfolding(crate::specs::Records::known, crate::specs::TraceRecords::is_turn, crate::specs::TraceRecords::is_trace))]
+
 ghost use Rattle.std.specs.Prelude.{◌≡◌, ◌+◌, ◌≤◌, length};
 ghost use Rattle.c_arrays.specs.Records.{known};
 ghost use Rattle.c_arrays.specs.TraceRecords.{wave_at, wave, is_turn, turn_of, meet_at, meet, is_trace, trace_at, trace_of};
 
 use crate::vec3_at;
-use meets::{Meet, Turn};
+use meets::{Angles, Meet};
 use traces::Trace;
 use waves::Wave;
 
@@ -27,17 +29,17 @@ pub fn wave_of(a: &[f64; 3]) -> Wave
 }
 
 // The two angles count where the tag is not 0.
-fn turn_of(tag: u32, from: f64, to: f64) -> Turn
+fn turn_of(tag: u32, from: f64, to: f64) -> Option<Angles>
     ensures { result ≡ turn_of tag from to }
 {
     match tag {
-        0 => Turn::Without,
-        _ => Turn::Angles(from, to),
+        0 => None,
+        _ => Some(Angles { from, to }),
     }
 }
 
-// The meet whose ten numbers stand from place k on.
-fn meet_at(a: &[f64], k: usize, tag: u32) -> Meet
+// The meet whose ten numbers stand from place k on: without `turn` where the tag is 0.
+pub fn meet_at(a: &[f64], k: usize, tag: u32) -> Meet
     requires { k + 10 ≤ length a.now }
     ensures { result ≡ meet_at a.now k tag }
 {

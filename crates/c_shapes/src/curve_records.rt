@@ -1,4 +1,6 @@
 // Curves as arrays of numbers.
+#![tactic(auto, unfolding(c_arrays::specs::Records::over, c_arrays::specs::Records::known, crate::specs::CurveRecords::is_curve, crate::specs::CurveRecords::with_curve, crate::specs::CurveRecords::curve_tags))]
+
 ghost use Rattle.std.specs.Prelude.{◌≡◌};
 ghost use Rattle.c_arrays.specs.Records.{known};
 ghost use Rattle.c_shapes.specs.CurveRecords.{is_curve, curve, with_curve, curve_tags};
@@ -8,16 +10,26 @@ use c_arrays::arc_records::{arc_at, put_arc};
 use curves::{Curve, RolledAt};
 use piece_arrays::{is_piece, piece_at, put_piece};
 
-// A curve by its tags: 0 an arc, whose other tags are not read, 1 a piece.
+// The curve of an array: an arc where the tag is 0, whose other tags are not read, else a piece.
+pub fn curve_at(a: &[f64; 27], kind: u32, arc: u32, trace: u32) -> Curve
+    ensures { result ≡ curve a.now kind arc trace }
+{
+    match kind {
+        0 => Curve::Arc(arc_at(a)),
+        _ => Curve::Rolled(RolledAt {
+            piece: piece_at(a, arc, trace),
+            radius: a[26],
+        }),
+    }
+}
+
+// The same where the tags are known: 0 an arc, 1 a piece.
 pub fn curve_of(a: &[f64; 27], kind: u32, arc: u32, trace: u32) -> Option<Curve>
     ensures { result ≡ known (is_curve kind arc trace) (curve a.now kind arc trace) }
 {
     match kind {
-        0 => Some(Curve::Arc(arc_at(a))),
-        1 if is_piece(arc, trace) => Some(Curve::Rolled(RolledAt {
-            piece: piece_at(a, arc, trace),
-            radius: a[26],
-        })),
+        0 => Some(curve_at(a, kind, arc, trace)),
+        1 if is_piece(arc, trace) => Some(curve_at(a, kind, arc, trace)),
         _ => None,
     }
 }
@@ -29,7 +41,7 @@ impl Stored<f64, 27> for Curve {
         match self {
             Curve::Arc(a) => put_arc(a, out),
             Curve::Rolled(w) => {
-                put_piece(w.piece, &mut *out);
+                put_piece(w.piece, out);
                 out[26] = w.radius;
             }
         }

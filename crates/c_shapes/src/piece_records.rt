@@ -1,5 +1,5 @@
 // Pieces of a development as arrays of numbers, and what is answered of them.
-#![tactic(auto, unfolding(c_arrays::specs::Records::over))]
+#![tactic(auto, unfolding(c_arrays::specs::Records::over, c_arrays::specs::Records::known))]
 
 ghost use Rattle.std.specs.Prelude.{◌≡◌};
 ghost use Rattle.c_arrays.specs.Records.{known, written};
@@ -7,7 +7,8 @@ ghost use Rattle.piece_arrays.specs.Arrays.{is_piece, piece, tags_of, with_piece
 ghost use Rattle.c_shapes.specs.PieceRecords.{of_place, of_measure, of_box};
 
 use crate::stored::{Stored, Tagged};
-use piece_arrays::{arc_tag, is_piece, put_piece, trace_tag};
+use c_arrays::put_vec2;
+use piece_arrays::{arc_tag, is_piece, piece_at, put_piece, trace_tag};
 use piece_boxes::brackets::FlatBox;
 use piece_curves::meet_curves::Place;
 use piece_lengths::measures::Measure;
@@ -18,7 +19,7 @@ pub fn piece_of(a: &[f64; 26], arc: u32, trace: u32) -> Option<Rolled>
     ensures { result ≡ known (is_piece arc trace) (piece a.now arc trace) }
 {
     if is_piece(arc, trace) {
-        Some(piece_arrays::piece_of(a, arc, trace))
+        Some(piece_at(a, arc, trace))
     } else {
         None
     }
@@ -46,10 +47,8 @@ impl Stored<f64, 4> for Place {
     ghost put = { written of_place };
 
     fn put(self, out: &mut [f64; 4]) {
-        out[0] = self.p.x;
-        out[1] = self.p.y;
-        out[2] = self.d.x;
-        out[3] = self.d.y;
+        put_vec2(self.p, out, 0);
+        put_vec2(self.d, out, 2);
     }
 }
 

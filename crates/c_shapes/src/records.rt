@@ -13,6 +13,7 @@ use boxes::Bounds;
 use c_arrays::arc_records::put_arc;
 use c_arrays::development_records::put_development;
 use c_arrays::face_records::put_cone;
+use c_arrays::{put_vec2, put_vec3};
 use cones::{Cone, Frame};
 use developments::Development;
 use developments::formulas::Unrolled;
@@ -61,8 +62,7 @@ impl Stored<f64, 2> for Vec2 {
     ghost put = { written of_vec2 };
 
     fn put(self, out: &mut [f64; 2]) {
-        out[0] = self.x;
-        out[1] = self.y;
+        put_vec2(self, out, 0);
     }
 }
 
@@ -70,9 +70,7 @@ impl Stored<f64, 3> for Vec3 {
     ghost put = { written of_vec3 };
 
     fn put(self, out: &mut [f64; 3]) {
-        out[0] = self.x;
-        out[1] = self.y;
-        out[2] = self.z;
+        put_vec3(self, out, 0);
     }
 }
 
@@ -88,18 +86,10 @@ impl Stored<f64, 12> for Rigid {
     ghost put = { written of_rigid };
 
     fn put(self, out: &mut [f64; 12]) {
-        out[0] = self.rot.x.x;
-        out[1] = self.rot.x.y;
-        out[2] = self.rot.x.z;
-        out[3] = self.rot.y.x;
-        out[4] = self.rot.y.y;
-        out[5] = self.rot.y.z;
-        out[6] = self.rot.z.x;
-        out[7] = self.rot.z.y;
-        out[8] = self.rot.z.z;
-        out[9] = self.shift.x;
-        out[10] = self.shift.y;
-        out[11] = self.shift.z;
+        put_vec3(self.rot.x, out, 0);
+        put_vec3(self.rot.y, out, 3);
+        put_vec3(self.rot.z, out, 6);
+        put_vec3(self.shift, out, 9);
     }
 }
 
@@ -107,12 +97,8 @@ impl Stored<f64, 6> for Bounds {
     ghost put = { written of_bounds };
 
     fn put(self, out: &mut [f64; 6]) {
-        out[0] = self.low.x;
-        out[1] = self.low.y;
-        out[2] = self.low.z;
-        out[3] = self.high.x;
-        out[4] = self.high.y;
-        out[5] = self.high.z;
+        put_vec3(self.low, out, 0);
+        put_vec3(self.high, out, 3);
     }
 }
 
@@ -130,8 +116,7 @@ impl Stored<f64, 3> for Unrolled {
     ghost put = { written of_unrolled };
 
     fn put(self, out: &mut [f64; 3]) {
-        out[0] = self.p.x;
-        out[1] = self.p.y;
+        put_vec2(self.p, out, 0);
         out[2] = self.r;
     }
 }
@@ -162,15 +147,9 @@ impl Stored<f64, 9> for meets::generatrix::Jet {
     ghost put = { written of_points };
 
     fn put(self, out: &mut [f64; 9]) {
-        out[0] = self.q.x;
-        out[1] = self.q.y;
-        out[2] = self.q.z;
-        out[3] = self.q1.x;
-        out[4] = self.q1.y;
-        out[5] = self.q1.z;
-        out[6] = self.q2.x;
-        out[7] = self.q2.y;
-        out[8] = self.q2.z;
+        put_vec3(self.q, out, 0);
+        put_vec3(self.q1, out, 3);
+        put_vec3(self.q2, out, 6);
     }
 }
 
@@ -188,18 +167,10 @@ impl Stored<f64, 12> for Frame {
     ghost put = { written of_frame };
 
     fn put(self, out: &mut [f64; 12]) {
-        out[0] = self.axis.x;
-        out[1] = self.axis.y;
-        out[2] = self.axis.z;
-        out[3] = self.origin.x;
-        out[4] = self.origin.y;
-        out[5] = self.origin.z;
-        out[6] = self.e1.x;
-        out[7] = self.e1.y;
-        out[8] = self.e1.z;
-        out[9] = self.e2.x;
-        out[10] = self.e2.y;
-        out[11] = self.e2.z;
+        put_vec3(self.axis, out, 0);
+        put_vec3(self.origin, out, 3);
+        put_vec3(self.e1, out, 6);
+        put_vec3(self.e2, out, 9);
     }
 }
 
@@ -208,12 +179,8 @@ impl Stored<f64, 8> for Integrals {
 
     fn put(self, out: &mut [f64; 8]) {
         out[0] = self.surface.six_v;
-        out[1] = self.surface.moment.x;
-        out[2] = self.surface.moment.y;
-        out[3] = self.surface.moment.z;
+        put_vec3(self.surface.moment, out, 1);
         out[4] = self.surface.area;
-        out[5] = self.surface.area_vector.x;
-        out[6] = self.surface.area_vector.y;
-        out[7] = self.surface.area_vector.z;
+        put_vec3(self.surface.area_vector, out, 5);
     }
 }

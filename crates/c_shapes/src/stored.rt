@@ -1,4 +1,6 @@
 // Answers stored where they are due: a record as numbers, or nothing where it is refused.
+#![tactic(auto, unfolding(c_arrays::specs::Records::over, c_arrays::specs::Records::stored, c_arrays::specs::TraceRecords::some_due))]
+
 ghost use Rattle.std.specs.Prelude.{◌≡◌, ℕ, List};
 ghost use Rattle.checked.specs.Told.{told};
 ghost use Rattle.checked.specs.Answers.{number_of};
@@ -35,8 +37,8 @@ pub fn store<T: Stored<E, N>, E, const N: usize>(
     ensures out { out.new ≡ stored T.put out.old (told answer) }
 {
     match answer {
-        Ok(record) => {
-            record.put(out);
+        Ok(value) => {
+            value.put(out);
             0
         }
         Err(refusal) => refusal.number() as u32,

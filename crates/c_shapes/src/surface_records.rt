@@ -1,12 +1,14 @@
 // Surfaces as arrays of numbers.
+#![tactic(auto, unfolding(c_arrays::specs::Records::over, c_arrays::specs::Records::known, crate::specs::SurfaceRecords::is_surface, crate::specs::SurfaceRecords::with_surface))]
+
 ghost use Rattle.std.specs.Prelude.{◌≡◌, ◌≤◌, length};
 ghost use Rattle.c_arrays.specs.Records.{known, over, written};
 ghost use Rattle.c_shapes.specs.SurfaceRecords.{is_surface, plane, cylinder, surface, of_plane, of_cylinder, with_surface};
 
 use crate::stored::Stored;
 use c_arrays::face_records::{cone_at, put_cone};
-use c_arrays::vec3_at;
-use piece_arrays::{is_piece, piece_of, put_piece};
+use c_arrays::{put_vec3, vec3_at};
+use piece_arrays::{is_piece, piece_at, put_piece};
 use surfaces::{Cylinder, Plane, Surface};
 
 fn plane_of(a: &[f64; 26]) -> Plane
@@ -33,36 +35,38 @@ fn put_plane(p: Plane, out: &mut [f64])
     requires { 6 ≤ length out.old }
     ensures { out.new ≡ over out.old 0 (of_plane p) }
 {
-    out[0] = p.origin.x;
-    out[1] = p.origin.y;
-    out[2] = p.origin.z;
-    out[3] = p.normal.x;
-    out[4] = p.normal.y;
-    out[5] = p.normal.z;
+    put_vec3(p.origin, out, 0);
+    put_vec3(p.normal, out, 3);
 }
 
 fn put_cylinder(c: Cylinder, out: &mut [f64])
     requires { 7 ≤ length out.old }
     ensures { out.new ≡ over out.old 0 (of_cylinder c) }
 {
-    out[0] = c.origin.x;
-    out[1] = c.origin.y;
-    out[2] = c.origin.z;
-    out[3] = c.axis.x;
-    out[4] = c.axis.y;
-    out[5] = c.axis.z;
+    put_vec3(c.origin, out, 0);
+    put_vec3(c.axis, out, 3);
     out[6] = c.radius;
 }
 
-// A surface by its tags: 0 a plane, 1 a cylinder, 2 a cone, whose other tags are not read, 3 a wall.
+// The surface of an array: 0 a plane, 1 a cylinder, 2 a cone, whose other tags are not read, else a wall.
+pub fn surface_at(a: &[f64; 26], kind: u32, convex: bool, arc: u32, trace: u32) -> Surface
+    ensures { result ≡ surface a.now kind convex arc trace }
+{
+    match kind {
+        0 => Surface::Plane(plane_of(a)),
+        1 => Surface::Cylinder(cylinder_of(a, convex)),
+        2 => Surface::Cone(cone_at(a, convex)),
+        _ => Surface::Wall(piece_at(a, arc, trace)),
+    }
+}
+
+// The same where the tags are known: 3 is a wall.
 pub fn surface_of(a: &[f64; 26], kind: u32, convex: bool, arc: u32, trace: u32) -> Option<Surface>
     ensures { result ≡ known (is_surface kind arc trace) (surface a.now kind convex arc trace) }
 {
     match kind {
-        0 => Some(Surface::Plane(plane_of(a))),
-        1 => Some(Surface::Cylinder(cylinder_of(a, convex))),
-        2 => Some(Surface::Cone(cone_at(a, convex))),
-        3 if is_piece(arc, trace) => Some(Surface::Wall(piece_of(a, arc, trace))),
+        0..=2 => Some(surface_at(a, kind, convex, arc, trace)),
+        3 if is_piece(arc, trace) => Some(surface_at(a, kind, convex, arc, trace)),
         _ => None,
     }
 }

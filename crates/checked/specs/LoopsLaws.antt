@@ -3,10 +3,10 @@ use Rattle.checked.specs.Answers.{and_then}
 use Prim.Native.Nat.{ℕ, zero, suc, ◌+◌, ◌-◌}
 use Rattle.std.specs.Prelude.{◌≡◌, Bool, true, false, ◌<◌}
 use Rattle.std.proofs.Math.Path.{refl}
-use Rattle.std.proofs.Common.{sym, ◌∙◌, ap, add-one, add-zero}
+use Rattle.std.proofs.Common.{sym, ◌∙◌, add-one, add-zero}
 use native.Mathlib.Omega.{arith}
 use Rattle.checked.specs.Checked.{Checked, first, ◌>>=◌, given, Due, due, refused, settled, answered}
-use Rattle.checked.specs.Laws.{first_assoc, first_zero, zero_first}
+use Rattle.checked.specs.Laws.{zero_first}
 use Rattle.checked.specs.Loops.{fold_c, while_c}
 use Rattle.checked.specs.Told.{number}
 use Rattle.checked.specs.ToldLaws.{rules as told_rules, none_met, value_is, met_is, settled_number, first_number}

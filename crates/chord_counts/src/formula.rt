@@ -20,6 +20,7 @@ fn quotient(radius: f64, chord: f64) -> Result<f64, Refusal>
     Ok(PI / a)
 }
 
+#[tactic(auto, using(checked::specs::Laws::settled_none), unfolding(crate::specs::Chords::chords_c))]
 fn chords(radius: f64, chord: f64) -> Result<f64, Refusal>
     ensures { told result ≡ answered (chords_c radius chord) }
 {
@@ -30,6 +31,7 @@ fn chords(radius: f64, chord: f64) -> Result<f64, Refusal>
     }
 }
 
+#[tactic(auto, unfolding(crate::specs::Chords::clamped))]
 fn clamp(x: f64) -> f64
     ensures { result ≡ clamped x }
 {

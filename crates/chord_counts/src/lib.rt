@@ -19,6 +19,7 @@ fn are_within(radius: f64, chord: f64) -> bool
 }
 
 // The chords that a full turn of a circle needs to stay within `chord` of it: 12 to 64.
+#[tactic(auto, using(checked::specs::ToldLaws::exit_is, checked::specs::ToldLaws::passing_number, checked::specs::ToldLaws::passes), unfolding(crate::specs::Chords::per_turn_due))]
 pub fn per_turn(radius: f64, chord: f64) -> Result<f64, Refusal>
     ensures { told result ≡ per_turn_due radius chord }
 {

@@ -1,6 +1,6 @@
 // Cones, and coordinates across their axis. What a program may call is here, the bare formulas are
 // in `formula`.
-#![tactic(auto)]
+#![tactic(auto, using(checked::specs::ToldLaws::exit_is, checked::specs::ToldLaws::passing_number, checked::specs::ToldLaws::passes), unfolding(crate::specs::Entries::cone_within, crate::specs::Entries::frame_within, crate::specs::Entries::frame_due, crate::specs::Entries::angle_due, crate::specs::Entries::point_due))]
 
 ghost use Rattle.std.specs.Prelude.{◌≡◌, ◌&&◌};
 ghost use Rattle.checked.specs.Told.{told};

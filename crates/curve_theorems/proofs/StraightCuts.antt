@@ -27,7 +27,7 @@ use Rattle.developments.specs.Developments.{development_within}
 use Rattle.arc_theorems.specs.Sizes.{nine_none}
 use Rattle.piece_curves.specs.declared.meet_curves.Place.{Place}
 use Rattle.piece_curves.specs.declared.CurveKind.TheVariants as way
-use Rattle.piece_curves.specs.PieceCurves.{curve_c, kind_c, untraced, curve_by}
+use Rattle.piece_curves.specs.PieceCurves.{curve_c, kind_c, curve_by}
 use Rattle.piece_curves.specs.Points.{straight_c, at_c}
 use Rattle.piece_curves.specs.PointsLaws.{straight_refusal}
 use Rattle.piece_boxes.specs.declared.brackets.FlatBox.{FlatBox}
@@ -69,7 +69,7 @@ coordinate f g t Wf Wg Ff Fg P = record {
 module _ (p : Rolled) (S : Straight p) (accepted : tests p ≡ 0) where
   -- ---- both calls go straight on
   run_is : run_c p ≡ given (curve_by p.from p.to p.dev.neutral way.Straight)
-  unfolding run_c curve_c kind_c untraced first
+  unfolding run_c curve_c kind_c first
   run_is = λ i. curve_c p.from p.to p.dev.neutral (S.arc i) (S.trace i)
 
   box_is : uv_box_due p ≡ due (ends p.from p.to)

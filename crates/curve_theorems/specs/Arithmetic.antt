@@ -18,8 +18,7 @@ use Rattle.rows.specs.Rows.{up_to}
 use Rattle.waves.specs.Values.{v_c, with_slope_c}
 use Rattle.meets.specs.declared.quadratic.Pipe.{Pipe}
 use Rattle.meets.specs.declared.quadratic.Intersection.{Intersection}
-use Rattle.meets.specs.declared.Turn.{Turn}
-use Rattle.meets.specs.declared.Turn.TheVariants as turn
+use Rattle.meets.specs.declared.Angles.{Angles}
 use Rattle.meets.specs.declared.Meet.{Meet}
 use Rattle.meets.specs.Quadratic.{own_c, other_c, lesser_c, intersection_c}
 use Rattle.meets.specs.Generatrix as generatrix
@@ -32,7 +31,7 @@ use Rattle.piece_curves.specs.declared.CurveKind.TheVariants as way
 use Rattle.piece_curves.specs.declared.PieceCurve.{PieceCurve}
 use Rattle.piece_curves.specs.declared.space_points.Rolling.{Rolling}
 use Rattle.piece_curves.specs.MeetCurves as meet_curves
-use Rattle.piece_curves.specs.PieceCurves.{meet_kind_c, traced_c, kind_c, curve_c}
+use Rattle.piece_curves.specs.PieceCurves.{kind_c, curve_c}
 use Rattle.piece_curves.specs.Points as points
 use Rattle.piece_curves.specs.SpacePoints as space
 use Rattle.piece_lengths.specs.Measures as measures
@@ -115,9 +114,9 @@ pipe_met : (m : Meet) (n : Float) → Met (pipe_c m n)
 unfolding pipe_c own_c other_c over_length_c length_c times_c cross_c dot_c
 pipe_met m n = by m.turn
   where
-    by : (k : Turn) → Met (pipe_by k m n)
-    by turn.Without = search parts depth 60 fits 4000
-    by (turn.Angles f g) = search parts depth 60 fits 4000
+    by : (k : Option Angles) → Met (pipe_by k m n)
+    by None = search parts depth 60 fits 4000
+    by (Some a) = search parts depth 60 fits 4000
 
 intersection_met : (p : Pipe) (phi : Float) → Met (intersection_c p phi)
 unfolding intersection_c across_c lesser_c plus_c minus_c times_c dot_c
@@ -132,17 +131,17 @@ rate_met : (c : MeetCurve) → Met (meet_curves.rate_c c)
 unfolding meet_curves.rate_c
 rate_met c = by c.turn
   where
-    by : (k : Turn) → Met (meet_curves.rate_by k c)
-    by turn.Without = search parts
-    by (turn.Angles f g) = search parts
+    by : (k : Option Angles) → Met (meet_curves.rate_by k c)
+    by None = search parts
+    by (Some a) = search parts
 
 angle_met : (c : MeetCurve) (t : Float) → Met (meet_curves.angle_c c t)
 unfolding meet_curves.angle_c
 angle_met c t = by c.turn
   where
-    by : (k : Turn) → Met (meet_curves.angle_by k c t)
-    by turn.Without = search parts depth 60 fits 4000
-    by (turn.Angles f g) = search parts depth 60 fits 4000
+    by : (k : Option Angles) → Met (meet_curves.angle_by k c t)
+    by None = search parts depth 60 fits 4000
+    by (Some a) = search parts depth 60 fits 4000
 
 ruleset along = (parts, rate_met, angle_met, intersection_met, derivatives_met)
 
@@ -154,17 +153,17 @@ slope_u_met : (c : MeetCurve) (t : Float) → Met (meet_curves.slope_u_c c t)
 unfolding meet_curves.slope_u_c meet_curves.around_c
 slope_u_met c t = by c.turn
   where
-    by : (k : Turn) → Met (meet_curves.slope_u_by k c t)
-    by turn.Without = search parts
-    by (turn.Angles f g) = search along depth 60 fits 4000
+    by : (k : Option Angles) → Met (meet_curves.slope_u_by k c t)
+    by None = search parts
+    by (Some a) = search along depth 60 fits 4000
 
 meet_point_met : (c : MeetCurve) (t : Float) → Met (meet_curves.point_c c t)
 unfolding meet_curves.point_c meet_curves.own_point_c meet_curves.hole_point_c meet_curves.spot_c meet_curves.near_c generatrix.height_c generatrix.point_c generatrix.along_generatrix_c plus_c times_c
 meet_point_met c t = by c.turn
   where
-    by : (k : Turn) → Met (meet_curves.point_by k c t)
-    by turn.Without = search along depth 60 fits 4000
-    by (turn.Angles f g) = search along depth 60 fits 4000
+    by : (k : Option Angles) → Met (meet_curves.point_by k c t)
+    by None = search along depth 60 fits 4000
+    by (Some a) = search along depth 60 fits 4000
 
 -- ---- along a piece: its point and derivative, and its point alone
 at_met : (r : PieceCurve) (t : Float) → Met (points.at_c r t)
@@ -230,10 +229,11 @@ own_turn_met (way.Wave w) rho chord = none_met
 own_turn_met (way.Meet c) rho chord = none_met
 
 kind_met : (from to : Vec2) (n : Float) (arc : Option ProfileArc) (t : Option Trace) → Met (kind_c from to n arc t)
-unfolding kind_c traced_c meet_kind_c
-kind_met from to n arc None = none_met
+unfolding kind_c meet_curves.meet_curve_c
 kind_met from to n arc (Some (trace.Wave w)) = none_met
-kind_met from to n arc (Some (trace.Meet m)) = first_met _ _ (pipe_met m n) none_met
+kind_met from to n arc (Some (trace.Meet m)) = first_met _ _ (first_met _ _ (pipe_met m n) none_met) none_met
+kind_met from to n (Some a) None = none_met
+kind_met from to n None None = none_met
 
 pub chords_of_met : (w : RolledAt) (chord : Float) → Met (chords_of w chord)
 unfolding chords_of run_c curve_c counts.chords_c

@@ -32,9 +32,7 @@ chords_of w chord = do
 -- the piece, ready to be drawn
 unfoldable pub ready : RolledAt → Rolling
 ready w = record {
-  origin = w.piece.dev.origin;
-  axis = w.piece.dev.axis;
-  start = w.piece.dev.start;
+  dev = w.piece.dev;
   radius = w.radius;
   run = (run_c w.piece).value;
 }

@@ -26,4 +26,4 @@ moved_piece_c p m = do
 unfoldable pub piece_c : Rolled → Float → Checked (List Vec3)
 piece_c p radius = do
   r ← run_c p
-  bounds.points_c p.dev.origin p.dev.axis p.dev.start radius r
+  bounds.points_c p.dev radius r

@@ -11,5 +11,5 @@ use Rattle.curves.specs.Parts.{piece_c}
 pub piece_sound : (p : Rolled) (radius : Float) → Sound (piece_c p radius)
 unfolding piece_c
 piece_sound p radius =
-    sound_then (run_c p).refusal (bounds.points_c p.dev.origin p.dev.axis p.dev.start radius (run_c p).value) (λ _.
-    bounds_laws.points_sound p.dev.origin p.dev.axis p.dev.start radius (run_c p).value)
+    sound_then (run_c p).refusal (bounds.points_c p.dev radius (run_c p).value) (λ _.
+    bounds_laws.points_sound p.dev radius (run_c p).value)

@@ -44,9 +44,7 @@ fn write_piece(
     let run = run(w.piece)?;
     let n = chords_of(run, w.radius, chord)?;
     let g = Rolling {
-        origin: w.piece.dev.origin,
-        axis: w.piece.dev.axis,
-        start: w.piece.dev.start,
+        dev: w.piece.dev,
         radius: w.radius,
         run,
     };

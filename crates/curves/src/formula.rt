@@ -16,7 +16,7 @@ pub fn reversed(c: Curve) -> Result<Curve, Refusal>
         Curve::Arc(a) => Ok(Curve::Arc(arcs::formula::reversed(a)?)),
         Curve::Rolled(w) => Ok(Curve::Rolled(RolledAt {
             piece: pieces::formula::reversed(w.piece),
-            radius: w.radius,
+            ..w
         })),
     }
 }
@@ -28,7 +28,7 @@ pub fn moved(c: Curve, m: Rigid) -> Result<Curve, Refusal>
         Curve::Arc(a) => Ok(Curve::Arc(moved_arc(a, m)?)),
         Curve::Rolled(w) => Ok(Curve::Rolled(RolledAt {
             piece: moved_piece(w.piece, m)?,
-            radius: w.radius,
+            ..w
         })),
     }
 }

@@ -1,5 +1,5 @@
 // A curve in space: what a program may call is here, the formulas that choose between arc and piece in `formula`.
-#![tactic(auto)]
+#![tactic(auto, unfolding(crate::specs::Drawn::inner_points_due, crate::specs::Curves::arc_of, crate::specs::Entries::arc_due, crate::specs::Entries::reversed_due), using(checked::specs::ToldLaws::passes))]
 
 ghost use Rattle.std.specs.Prelude.{◌≡◌};
 ghost use Rattle.checked.specs.Told.{told, failed};
@@ -33,15 +33,14 @@ pub enum Curve {
 }
 
 impl Curve {
-    // The refusal of the test that the curve fails first, where it fails one.
+    // The refusal of the test that the curve fails first, where it fails one. Inlined, since a call
+    // copies the curve.
+    #[inline(always)]
     pub fn tried(self) -> Result<(), Refusal>
         ensures { failed result ≡ tests self }
     {
         match self {
-            Curve::Arc(a) => require(
-                circle_within(a.center, a.axis, a.radius),
-                Refusal::OutOfRange,
-            ),
+            Curve::Arc(a) => require(circle_within(a), Refusal::OutOfRange),
             Curve::Rolled(w) => {
                 require(is_within(w.radius), Refusal::OutOfRange)?;
                 w.piece.tried()
@@ -85,7 +84,7 @@ impl Curve {
         self.tried()?;
         require(bounds.is_free(), Refusal::BadBoxOrSums)?;
         match self {
-            Curve::Arc(a) => extremes::extended(a.center, a.axis, a.radius, from, to, bounds),
+            Curve::Arc(a) => extremes::extended(a, from, to, bounds),
             Curve::Rolled(w) => with_piece(w.piece, w.radius, bounds),
         }
     }

@@ -1,8 +1,8 @@
 // What a curve is made of, an arc or a piece: both moved, a piece's part of a box. On numbers of any size.
 ghost use Rattle.std.specs.Prelude.{◌≡◌};
 ghost use Rattle.checked.specs.Told.{told};
-ghost use Rattle.checked.specs.Checked.{settled, answered};
-ghost use Rattle.boxes.specs.Boxes.{widened_by};
+ghost use Rattle.checked.specs.Checked.{answered};
+ghost use Rattle.boxes.specs.Boxes.{widened_c};
 ghost use Rattle.curves.specs.Parts.{moved_arc_c, moved_piece_c, piece_c};
 
 use arcs::Arc;
@@ -21,7 +21,7 @@ pub fn moved_arc(a: Arc, m: Rigid) -> Result<Arc, Refusal>
     Ok(Arc {
         center: x.origin,
         axis: x.along,
-        radius: a.radius,
+        ..a
     })
 }
 
@@ -30,19 +30,13 @@ pub fn moved_piece(p: Rolled, m: Rigid) -> Result<Rolled, Refusal>
     ensures { told result ≡ answered (moved_piece_c p m) }
 {
     let dev = moved_by(p.dev, m)?;
-    Ok(Rolled {
-        dev,
-        from: p.from,
-        to: p.to,
-        arc: p.arc,
-        trace: p.trace,
-    })
+    Ok(Rolled { dev, ..p })
 }
 
 // The box widened by a piece at `radius` from its axis.
 pub fn with_piece(p: Rolled, radius: f64, b: Bounds) -> Result<Bounds, Refusal>
-    ensures { told result ≡ settled (piece_c p radius).refusal (widened_by b (piece_c p radius).value) }
+    ensures { told result ≡ answered (widened_c b (piece_c p radius)) }
 {
     let r = run(p)?;
-    extended_by(p.dev.origin, p.dev.axis, p.dev.start, radius, r, b)
+    extended_by(p.dev, radius, r, b)
 }

@@ -18,9 +18,9 @@ use mir.Syntax.{w64}
 use mir.Val.{SFits, to_z, of_z}
 use Rattle.std.proofs.Math.Facts.{to_z_pos, to_z-of_z}
 use Rattle.checked.specs.Refusals.{COUNT_TOO_LARGE}
-use Rattle.checked.specs.Checked.{Due, due, refused}
+use Rattle.checked.specs.Checked.{due, refused}
 use Rattle.checked.specs.Tests.{fails}
-use Rattle.checked.specs.TestsLaws.{holds, never}
+use Rattle.checked.specs.TestsLaws.{holds}
 use Rattle.checked.specs.Told.{number}
 use Rattle.checked.specs.ToldLaws.{number_some}
 use Rattle.checked.specs.declared.Refusal.{Refusal}
@@ -212,18 +212,3 @@ minus_fits n h = subst (λ (z : ℤ). SFits w64 z) (sym (minus_signed n h)) (sig
 
 pub minus_is : (n : ℕ) → n ≤ most → to_z w64 (of_z w64 (pos 0 -ℤ to_z w64 n)) ≡ signed true n
 minus_is n h = to_z-of_z (minus_fits n h) ∙ minus_signed n h
-
--- whatever the thousandths are, 64 bits hold them
-whole : Due ℤ → ℤ
-whole (due z) = z
-whole (refused n) = pos 0
-
-pub thousandths_fit : (x : Float) (z : ℤ) → due z ≡ thousandths x → SFits w64 z
-unfolding thousandths whole
-thousandths_fit nan z e = absurd (never _ z (sym e))
-thousandths_fit (inf s) z e = absurd (never _ z (sym e))
-thousandths_fit (fin s m k) z e = by (nearest_up (1000 * (m * up k)) (down k)) (leb (nearest_up (1000 * (m * up k)) (down k)) most) refl e
-  where
-    by : (size : ℕ) (b : Bool) → leb size most ≡ b → due z ≡ cond b (due (signed s size)) (refused COUNT_TOO_LARGE) → SFits w64 z
-    by size true l h = subst (λ (y : ℤ). SFits w64 y) (sym (ap whole h)) (signed_fits s size (leb-true size most l))
-    by size false l h = absurd (never _ z (sym h))

@@ -21,6 +21,10 @@ radial_at_c axis start neutral u = do
 unfoldable pub point_c : Vec3 → Vec3 → Vec3 → Float → Vec2 → Float → Checked Vec3
 point_c o axis start neutral p r = vec o ⊞ vec axis ⊠ num p.y ⊞ radial_at_c axis start neutral p.x ⊠ num r
 
+-- how the point at r moves along d, where the unit vector away from the axis is at hand
+abbrev pub moves_c : Vec3 → Float → Vec3 → Vec2 → Float → Checked Vec3
+moves_c axis neutral away d r = vec axis ⨯ vec away ⊠ (num d.x ⊗ num r ⊘ num neutral) ⊞ vec axis ⊠ num d.y
+
 -- how that point moves at p along d
 unfoldable pub along_c : Vec3 → Vec3 → Float → Vec2 → Vec2 → Float → Checked Vec3
 along_c axis start neutral p d r = vec axis ⨯ radial_at_c axis start neutral p.x ⊠ (num d.x ⊗ num r ⊘ num neutral) ⊞ vec axis ⊠ num d.y

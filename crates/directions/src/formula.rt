@@ -1,4 +1,6 @@
 // The formulas on numbers of any size. A length or a part across an axis that is not finite is for the caller to try.
+#![tactic(auto, unfolding(crate::specs::Directions::length_c, crate::specs::Directions::unit_c, crate::specs::Directions::across_c))]
+
 ghost use Rattle.std.specs.Prelude.{◌≡◌};
 ghost use Rattle.checked.specs.Checked.{answered};
 ghost use Rattle.checked.specs.Told.{told};
@@ -39,6 +41,7 @@ pub fn across(axis: Vec3, d: Vec3) -> Vec3
 }
 
 // The unit vector from the axis through `origin` along `axis` towards p.
+#[tactic(auto, using(crate::specs::Laws::radial_refusal), unfolding(crate::specs::Directions::radial_c))]
 pub fn radial(origin: Vec3, axis: Vec3, p: Vec3) -> Result<Vec3, Refusal>
     ensures { told result ≡ answered (radial_c origin axis p) }
 {

@@ -11,6 +11,7 @@ use vectors::{Vec3, is_within3};
 pub mod formula;
 
 // The vector of length 1 along v.
+#[tactic(auto, using(checked::specs::ToldLaws::exit_is, checked::specs::ToldLaws::passing_number, checked::specs::ToldLaws::passes), unfolding(crate::specs::Directions::unit_due))]
 pub fn unit(v: Vec3) -> Result<Vec3, Refusal>
     ensures { told result ≡ unit_due v }
 {

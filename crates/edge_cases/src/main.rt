@@ -9,6 +9,7 @@
 ghost use Rattle.std.specs.Prelude.{◌<◌, IfSome};
 
 use edge_file::Reading;
+use edge_lines::Line;
 use std::alloc::Global;
 use std::io;
 
@@ -138,14 +139,12 @@ fn file_at(files: &Files, n: u32) -> io::Result<Vec<u8>> {
 }
 
 // What is printed of a file.
-fn line_of(alloc: Global, file: &[u8]) -> io::Result<Vec<u8>> {
-    let mut text = [0u8; 160];
-    let at = Reading::begun().feed(file).reading.finish(&mut text);
-    Ok(Vec::from_slice(alloc, &text[at..])?)
+fn line_of(file: &[u8]) -> Line {
+    Reading::begun().feed(file).reading.finish()
 }
 
 // Files with the same line, from the first one up to `end`, which is not one of them.
-fn tell(rt: &impl Print, files: &Files, first: u32, end: u32, line: &[u8]) -> io::Result<()> {
+fn tell(rt: &impl Print, files: &Files, first: u32, end: u32, line: &Line) -> io::Result<()> {
     if first < end {
         let last = end - 1;
         print!(rt; "{}", files.name)?;
@@ -157,18 +156,18 @@ fn tell(rt: &impl Print, files: &Files, first: u32, end: u32, line: &[u8]) -> io
             print!(rt; " to {last}, {count} files")?;
         }
         print!(rt; ": ")?;
-        rt.write_all(line)?;
+        rt.write_all(line.text())?;
     }
     Ok(())
 }
 
 // Each file of a line.
-fn tell_all(rt: &impl Print, alloc: Global, files: &Files) -> io::Result<()> {
+fn tell_all(rt: &impl Print, files: &Files) -> io::Result<()> {
     let mut first = files.from;
-    let mut line = line_of(alloc, &file_at(files, first)?)?;
+    let mut line = line_of(&file_at(files, first)?);
     for n in files.from..files.to {
-        let next = line_of(alloc, &file_at(files, n)?)?;
-        if next != line {
+        let next = line_of(&file_at(files, n)?);
+        if next.text() != line.text() {
             tell(rt, files, first, n, &line)?;
             first = n;
             line = next;
@@ -182,7 +181,7 @@ fn main(rt: HostRuntime) -> io::Result<()> {
     let text = io::read_to_string(alloc, rt.stdin())?;
     for line in text.lines() {
         if let Some(files) = files_of(alloc, line)? {
-            tell_all(&rt, alloc, &files)?;
+            tell_all(&rt, &files)?;
         }
     }
     Ok(())

@@ -1,4 +1,3 @@
 -- What several proofs of this crate cite, and in `Cutting` that a file read piece by piece gives the line of the file.
 pub mod Cutting
-pub mod Last
 pub mod Turns

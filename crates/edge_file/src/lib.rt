@@ -1,7 +1,7 @@
 // Reading an edge file: the records one after the other, and the line at the end.
-#![tactic(auto)]
+#![tactic(auto, unfolding(crate::specs::EdgeFile::next, crate::specs::EdgeFile::ended, crate::specs::EdgeFile::line_from, crate::specs::Steps::line_on, crate::specs::Steps::step, crate::specs::Steps::due_of, crate::specs::Steps::is_refused))]
 
-ghost use Rattle.std.specs.Prelude.{◌≡◌, [], ◌≤◌, length, drop};
+ghost use Rattle.std.specs.Prelude.{◌≡◌, []};
 ghost use Rattle.edge_records.specs.Records.{record_of};
 ghost use Rattle.checked.specs.Told.{number};
 ghost use Rattle.edge_file.specs.EdgeFile.{bounds_of, next, call_of};
@@ -10,6 +10,7 @@ ghost use Rattle.edge_file.specs.Steps.{state};
 
 use boxes::Bounds;
 use checked::Refusal;
+use edge_lines::Line;
 use edge_records::{Edge, Record};
 
 // Whether records are still to come, the end record was there, or a refusal ended the reading.
@@ -60,9 +61,9 @@ impl Reading {
         ensures { state result ≡ Steps.stopped (state self) (number refusal) k }
     {
         Reading {
-            seen: self.seen,
             number: k,
             status: Status::Refused(refusal),
+            ..self
         }
     }
 
@@ -88,9 +89,8 @@ impl Reading {
         match edge_records::record_of(bytes) {
             Record::Edge(e) => self.edge(e),
             Record::End => Reading {
-                seen: self.seen,
-                number: self.number,
                 status: Status::Ended,
+                ..self
             },
             Record::Malformed => self.stopped(Refusal::MalformedFile, self.number),
         }
@@ -113,8 +113,7 @@ impl Reading {
     {
         match self.status {
             Status::Open => edge_records::size_of(bytes),
-            Status::Ended => bytes.len(),
-            Status::Refused(_) => bytes.len(),
+            Status::Ended | Status::Refused(_) => bytes.len(),
         }
     }
 
@@ -140,18 +139,16 @@ impl Reading {
         Taken { reading, used }
     }
 
-    // The line where no more bytes come, at the end of the buffer; the answer is where it begins.
-    pub fn finish(self, out: &mut [u8; 160]) -> usize
-        ensures within { result ≤ 160 }
-        ensures room { length out.new ≡ 160 }
-        ensures line { drop result out.new ≡ Steps.line_on (state self) [] }
+    // The line where no more bytes come.
+    pub fn finish(self) -> Line
+        ensures { result ≡ Steps.line_on (state self) [] }
     {
         match self.status {
-            Status::Open => edge_lines::refused_line(Refusal::MalformedFile, self.number, out),
-            Status::Refused(refusal) => edge_lines::refused_line(refusal, self.number, out),
+            Status::Open => edge_lines::refused_line(Refusal::MalformedFile, self.number),
+            Status::Refused(refusal) => edge_lines::refused_line(refusal, self.number),
             Status::Ended => match self.seen {
-                Some(b) => edge_lines::box_line(b.low, b.high, self.number, out),
-                None => edge_lines::empty_line(out),
+                Some(b) => edge_lines::box_line(b.low, b.high, self.number),
+                None => edge_lines::empty_line(),
             },
         }
     }

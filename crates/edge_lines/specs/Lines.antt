@@ -1,5 +1,5 @@
 -- The line that the program prints, as bytes.
-use Rattle.std.specs.Prelude.{ℕ, List, [], ◌∷◌, ◌++◌, ℤ, drop, Result, Ok, Err}
+use Rattle.std.specs.Prelude.{ℕ, List, [], ◌∷◌, ◌++◌, ℤ, Result, Ok, Err}
 use Prim.Native.Char.{code}
 use Prim.Native.String.{String}
 use Rattle.checked.specs.Checked.{Due, due, refused}
@@ -24,10 +24,10 @@ spaced (due z) (due rest) = due (bytes " " ++ numeral z ++ rest)
 unfoldable pub corner : Vec3 → Due (List ℕ) → Due (List ℕ)
 corner p rest = spaced (thousandths p.x) (spaced (thousandths p.y) (spaced (thousandths p.z) rest))
 
--- what stands of a line in a buffer, by where it begins, or the refusal of a number in it
-abbrev pub stands : Result ℕ Refusal → List ℕ → Due (List ℕ)
-stands (Ok from) out = due (drop from out)
-stands (Err refusal) out = refused (number refusal)
+-- what stands of a line after numbers were put, or the refusal of one of them
+abbrev pub stands : Result Unit Refusal → List ℕ → Due (List ℕ)
+stands (Ok _) text = due text
+stands (Err refusal) text = refused (number refusal)
 
 -- where no edge was read
 unfoldable pub empty_line : List ℕ

@@ -1,5 +1,5 @@
 // The records of an edge file: what their heads say, and the numbers in their bodies.
-#![tactic(auto)]
+#![tactic(auto, unfolding(crate::specs::Records::low_first, crate::specs::Records::point_at, crate::specs::Records::tagged, crate::specs::Records::head_of, crate::specs::Records::kind_of, crate::specs::Records::edge_of, crate::specs::Records::record_of, crate::specs::Records::size_of))]
 
 ghost use Rattle.std.specs.Prelude.{◌≡◌, [], ◌∷◌, ◌+◌, ◌*◌, ◌≤◌, length};
 ghost use Rattle.edge_records.specs.Records.{low_first, number_at, point_at, tagged, length_of, head_of, kind_of, edge_of, record_of, size_of_kind, size_of};
@@ -46,8 +46,7 @@ impl Kind {
     {
         match self {
             Kind::Arc => ARC,
-            Kind::End => HEAD,
-            Kind::Unknown => HEAD,
+            Kind::End | Kind::Unknown => HEAD,
             Kind::Short => 0,
         }
     }
@@ -56,12 +55,10 @@ impl Kind {
 fn tagged(tag: u8) -> Kind
     ensures { result ≡ tagged tag }
 {
-    if tag == 1 {
-        Kind::Arc
-    } else if tag == 127 {
-        Kind::End
-    } else {
-        Kind::Unknown
+    match tag {
+        1 => Kind::Arc,
+        127 => Kind::End,
+        _ => Kind::Unknown,
     }
 }
 
@@ -69,7 +66,7 @@ fn head_of(tag: u8, low: u8, high: u8) -> Kind
     ensures { result ≡ head_of tag (low_first (low ∷ high ∷ [])) }
 {
     let kind = tagged(tag);
-    let length = low as usize + 256 * (high as usize);
+    let length = u16::from_le_bytes([low, high]) as usize;
     if HEAD + length == kind.size() {
         kind
     } else {
@@ -80,10 +77,10 @@ fn head_of(tag: u8, low: u8, high: u8) -> Kind
 fn kind_of(bytes: &[u8]) -> Kind
     ensures { result ≡ kind_of bytes.now }
 {
-    if bytes.len() < HEAD {
+    let [tag, low, high, ..] = *bytes else {
         return Kind::Short;
-    }
-    let head = head_of(bytes[0], bytes[1], bytes[2]);
+    };
+    let head = head_of(tag, low, high);
     if bytes.len() < head.size() {
         Kind::Short
     } else {
@@ -96,16 +93,9 @@ fn number_at(i: usize, s: &[u8]) -> f64
     requires { i + 8 ≤ length s.now }
     ensures { result ≡ number_at i s.now }
 {
-    of_bits(u64::from_le_bytes([
-        s[i],
-        s[i + 1],
-        s[i + 2],
-        s[i + 3],
-        s[i + 4],
-        s[i + 5],
-        s[i + 6],
-        s[i + 7],
-    ]))
+    let mut word = [0; 8];
+    word.copy_from_slice(&s[i..i + 8]);
+    of_bits(u64::from_le_bytes(word))
 }
 
 // The point of three such numbers.
@@ -143,8 +133,7 @@ pub fn record_of(bytes: &[u8]) -> Record
     match kind_of(bytes) {
         Kind::Arc => Record::Edge(edge_of(&bytes[HEAD..])),
         Kind::End => Record::End,
-        Kind::Unknown => Record::Malformed,
-        Kind::Short => Record::Malformed,
+        Kind::Unknown | Kind::Short => Record::Malformed,
     }
 }
 

@@ -10,9 +10,15 @@ use borrow.Author.Tests.{eqb-true}
 use Rattle.edge_records.specs.Records.{shortest}
 use Rattle.edge_file.specs.EdgeFile.{line_of}
 use Rattle.edge_file.specs.Steps.{State, begun, line_on, is_refused, Fed}
-use Rattle.edgebox.specs.Input.{Took, is_due, HasRead}
+use Rattle.edgebox.specs.Input.{is_due, HasRead}
 
--- what `feed` does with the bytes of one read
+-- The reading r takes the bytes of a read, and q follows: as many as an edge's record has are taken
+-- whole, whatever comes after them; fewer are the last of the file, and the line is that of a file
+-- which ends with them.
+pub record Took (r : State) (bytes : List ℕ) (q : State) : Type 0 where
+  pub on : length bytes ≡ shortest → (rest : List ℕ) → line_on q rest ≡ line_on r (bytes ++ rest)
+  pub over : line_on q [] ≡ line_on r bytes
+
 pub took : (r q : State) (bytes : List ℕ) (used : ℕ) → Fed r bytes q used → Took r bytes q
 took r q bytes used f = record {
   on = λ e rest. ap (λ (l : List ℕ). line_on q (l ++ rest)) (sym (none e)) ∙ f.on rest;
@@ -42,10 +48,6 @@ whole_read q bytes e = go (is_refused q) e
     go : (x : Bool) → (not x && eqb (length bytes) shortest) ≡ true → length bytes ≡ shortest
     go true h = absurd (true≢false (sym h))
     go false h = eqb-true (length bytes) shortest h
-
-pub was_due : (due : Bool) → not due ≡ false → due ≡ true
-was_due true h = refl
-was_due false h = sym h
 
 pub stands_more : (r q : State) (bytes : List ℕ) → Standing r → Took r bytes q → is_due q bytes ≡ true → Standing q
 stands_more r q bytes s t e = record {

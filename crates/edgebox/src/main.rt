@@ -5,30 +5,18 @@
 ghost use Rattle.std.specs.Prelude.{◌≡◌, ◌≤◌, length};
 ghost use Rattle.edge_records.specs.Records.{shortest};
 ghost use Rattle.edge_file.specs.Steps.{state};
-ghost use Rattle.edgebox.specs.Input.{Took, is_due, HasRead};
+ghost use Rattle.edgebox.specs.Input.{is_due, HasRead};
 
 use edge_file::Reading;
 use edge_records::ARC;
 use std::io;
 use std::io::Read;
 
-// A reading after one read, and whether another one is due.
-#[derive(Clone, Copy)]
-struct Turn {
-    reading: Reading,
-    is_due: bool,
-}
-
-// Takes the bytes of one read.
-fn take(reading: Reading, bytes: &[u8]) -> Turn
-    ensures took { Took (state reading) bytes.now (state result.reading) }
-    ensures more { result.is_due ≡ is_due (state result.reading) bytes.now }
+// Whether another read is due after that of some bytes, which the reading has taken.
+fn is_due(reading: Reading, bytes: &[u8]) -> bool
+    ensures { result ≡ is_due (state reading) bytes.now }
 {
-    let reading = reading.feed(bytes).reading;
-    Turn {
-        reading,
-        is_due: !reading.is_refused() & (bytes.len() == ARC),
-    }
+    !reading.is_refused() & (bytes.len() == ARC)
 }
 
 // Reads until the buffer is full, the input is over or a read fails, and says how many bytes it put
@@ -57,9 +45,9 @@ fn read_all<R: Read>(input: &mut R, buf: &mut [u8]) -> Reading
     let mut reading = Reading::begun();
     for _ in 0..u64::MAX {
         let count = read_full(input, buf);
-        let turn = take(reading, &buf[..count]);
-        reading = turn.reading;
-        if !turn.is_due {
+        let bytes = &buf[..count];
+        reading = reading.feed(bytes).reading;
+        if !is_due(reading, bytes) {
             break;
         }
     }
@@ -69,7 +57,6 @@ fn read_all<R: Read>(input: &mut R, buf: &mut [u8]) -> Reading
 fn main(rt: HostRuntime) -> io::Result<()> {
     let mut buf = [0u8; ARC];
     let reading = read_all(&mut rt.stdin(), &mut buf);
-    let mut line = [0u8; 160];
-    let from = reading.finish(&mut line);
-    rt.write_all(&line[from..])
+    let line = reading.finish();
+    rt.write_all(line.text())
 }

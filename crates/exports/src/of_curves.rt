@@ -29,10 +29,10 @@ pub fn jr_curve_reversed(
     ensures out { out.new ≡ stored with_curve out.old (tag_due (is_curve kind arc trace) (Curves.reversed_due (curve c.now kind arc trace))) }
     ensures tags { tags.new ≡ after curve_tags tags.old (tag_due (is_curve kind arc trace) (Curves.reversed_due (curve c.now kind arc trace))) }
 {
-    match curve_of(c, kind, arc, trace) {
-        Some(e) => store_tagged(e.reversed(), out, tags),
-        None => UNKNOWN_TAG,
-    }
+    let Some(e) = curve_of(c, kind, arc, trace) else {
+        return UNKNOWN_TAG;
+    };
+    store_tagged(e.reversed(), out, tags)
 }
 
 // The curve c moved by m, its tags as they were.
@@ -47,10 +47,10 @@ pub fn jr_curve_moved(
     ensures number { result ≡ number_of (tag_due (is_curve kind arc trace) (Curves.moved_due (curve c.now kind arc trace) (rigid m.now))) }
     ensures out { out.new ≡ stored with_curve out.old (tag_due (is_curve kind arc trace) (Curves.moved_due (curve c.now kind arc trace) (rigid m.now))) }
 {
-    match curve_of(c, kind, arc, trace) {
-        Some(e) => store(e.moved(rigid_of(m)), out),
-        None => UNKNOWN_TAG,
-    }
+    let Some(e) = curve_of(c, kind, arc, trace) else {
+        return UNKNOWN_TAG;
+    };
+    store(e.moved(rigid_of(m)), out)
 }
 
 // The arc that the curve c is; 255 for a piece, which is none.
@@ -58,10 +58,10 @@ pub fn jr_curve_arc(c: &[f64; 27], kind: u32, arc: u32, trace: u32, out: &mut [f
     ensures number { result ≡ number_of (tag_due (is_curve kind arc trace) (some_due (Curves.arc_due (curve c.now kind arc trace)))) }
     ensures out { out.new ≡ after of_arc out.old (tag_due (is_curve kind arc trace) (some_due (Curves.arc_due (curve c.now kind arc trace)))) }
 {
-    match curve_of(c, kind, arc, trace) {
-        Some(e) => store_some(e.arc(), out),
-        None => UNKNOWN_TAG,
-    }
+    let Some(e) = curve_of(c, kind, arc, trace) else {
+        return UNKNOWN_TAG;
+    };
+    store_some(e.arc(), out)
 }
 
 // Writes the points of the curve c strictly between `from` and `to`, a piece's between its own ends,
@@ -82,13 +82,13 @@ pub fn jr_curve_inner_points(
     ensures row { row.new ≡ Rows.row_after (tag_due (is_curve kind arc trace) (inner_points_due (curve c.now kind arc trace) (vec3 from.now) (vec3 to.now) chord (length row.old))) row.old }
     ensures written { written.new ≡ after_count written.old (tag_due (is_curve kind arc trace) (inner_points_due (curve c.now kind arc trace) (vec3 from.now) (vec3 to.now) chord (length row.old))) }
 {
-    match curve_of(c, kind, arc, trace) {
-        Some(e) => store_drawn(
-            write_inner_points(e, vec3_of(from), vec3_of(to), chord, row),
-            written,
-        ),
-        None => UNKNOWN_TAG,
-    }
+    let Some(e) = curve_of(c, kind, arc, trace) else {
+        return UNKNOWN_TAG;
+    };
+    store_drawn(
+        write_inner_points(e, vec3_of(from), vec3_of(to), chord, row),
+        written,
+    )
 }
 
 // Widens the box b to hold the curve c, an arc from `from` to `to`, a piece from its own start to
@@ -105,8 +105,8 @@ pub fn jr_curve_extend_bounds(
     ensures number { result ≡ number_of (tag_due (is_curve kind arc trace) (Curves.extend_due (curve c.now kind arc trace) (vec3 from.now) (vec3 to.now) (bounds b.old))) }
     ensures corners { b.new ≡ after of_bounds b.old (tag_due (is_curve kind arc trace) (Curves.extend_due (curve c.now kind arc trace) (vec3 from.now) (vec3 to.now) (bounds b.old))) }
 {
-    match curve_of(c, kind, arc, trace) {
-        Some(e) => store(e.extended(vec3_of(from), vec3_of(to), bounds_of(b)), b),
-        None => UNKNOWN_TAG,
-    }
+    let Some(e) = curve_of(c, kind, arc, trace) else {
+        return UNKNOWN_TAG;
+    };
+    store(e.extended(vec3_of(from), vec3_of(to), bounds_of(b)), b)
 }

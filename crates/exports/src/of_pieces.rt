@@ -16,10 +16,10 @@ pub fn jr_piece_uv_box(w: &[f64; 26], arc: u32, trace: u32, out: &mut [f64; 4]) 
     ensures number { result ≡ number_of (tag_due (is_piece arc trace) (Pieces.uv_box_due (piece w.now arc trace))) }
     ensures out { out.new ≡ after of_box out.old (tag_due (is_piece arc trace) (Pieces.uv_box_due (piece w.now arc trace))) }
 {
-    match piece_of(w, arc, trace) {
-        Some(c) => store(c.uv_box(), out),
-        None => UNKNOWN_TAG,
-    }
+    let Some(c) = piece_of(w, arc, trace) else {
+        return UNKNOWN_TAG;
+    };
+    store(c.uv_box(), out)
 }
 
 // How many chords through the piece w stay within `deviation` of it in its development.
@@ -33,10 +33,10 @@ pub fn jr_piece_polyline(
     ensures number { result ≡ number_of (tag_due (is_piece arc trace) (Pieces.polyline_due (piece w.now arc trace) deviation)) }
     ensures out { out.new ≡ after alone out.old (tag_due (is_piece arc trace) (Pieces.polyline_due (piece w.now arc trace) deviation)) }
 {
-    match piece_of(w, arc, trace) {
-        Some(c) => store(c.polyline(deviation), out),
-        None => UNKNOWN_TAG,
-    }
+    let Some(c) = piece_of(w, arc, trace) else {
+        return UNKNOWN_TAG;
+    };
+    store(c.polyline(deviation), out)
 }
 
 // The piece w run the other way, and to `tags` its tags `arc` and `trace`.
@@ -51,10 +51,10 @@ pub fn jr_piece_reversed(
     ensures out { out.new ≡ stored with_piece out.old (tag_due (is_piece arc trace) (Pieces.reversed_due (piece w.now arc trace))) }
     ensures tags { tags.new ≡ after tags_of tags.old (tag_due (is_piece arc trace) (Pieces.reversed_due (piece w.now arc trace))) }
 {
-    match piece_of(w, arc, trace) {
-        Some(c) => store_tagged(c.reversed(), out, tags),
-        None => UNKNOWN_TAG,
-    }
+    let Some(c) = piece_of(w, arc, trace) else {
+        return UNKNOWN_TAG;
+    };
+    store_tagged(c.reversed(), out, tags)
 }
 
 // The point (u, v) of the piece w at t, which is 0 at its start and 1 at its end, and its
@@ -63,10 +63,10 @@ pub fn jr_piece_at(w: &[f64; 26], arc: u32, trace: u32, t: f64, out: &mut [f64; 
     ensures number { result ≡ number_of (tag_due (is_piece arc trace) (Pieces.at_due (piece w.now arc trace) t)) }
     ensures out { out.new ≡ after of_place out.old (tag_due (is_piece arc trace) (Pieces.at_due (piece w.now arc trace) t)) }
 {
-    match piece_of(w, arc, trace) {
-        Some(c) => store(c.at(t), out),
-        None => UNKNOWN_TAG,
-    }
+    let Some(c) = piece_of(w, arc, trace) else {
+        return UNKNOWN_TAG;
+    };
+    store(c.at(t), out)
 }
 
 // The second derivative of the piece w at t.
@@ -74,10 +74,10 @@ pub fn jr_piece_second(w: &[f64; 26], arc: u32, trace: u32, t: f64, out: &mut [f
     ensures number { result ≡ number_of (tag_due (is_piece arc trace) (Pieces.second_due (piece w.now arc trace) t)) }
     ensures out { out.new ≡ after of_vec2 out.old (tag_due (is_piece arc trace) (Pieces.second_due (piece w.now arc trace) t)) }
 {
-    match piece_of(w, arc, trace) {
-        Some(c) => store(c.second(t), out),
-        None => UNKNOWN_TAG,
-    }
+    let Some(c) = piece_of(w, arc, trace) else {
+        return UNKNOWN_TAG;
+    };
+    store(c.second(t), out)
 }
 
 // The unit normal of the wall over the piece w at p, r away from the axis: to the left of the way
@@ -93,10 +93,10 @@ pub fn jr_piece_normal(
     ensures number { result ≡ number_of (tag_due (is_piece arc trace) (Pieces.normal_due (piece w.now arc trace) (vec2 p.now) r)) }
     ensures out { out.new ≡ after of_vec3 out.old (tag_due (is_piece arc trace) (Pieces.normal_due (piece w.now arc trace) (vec2 p.now) r)) }
 {
-    match piece_of(w, arc, trace) {
-        Some(c) => store(c.normal(vec2_of(p), r), out),
-        None => UNKNOWN_TAG,
-    }
+    let Some(c) = piece_of(w, arc, trace) else {
+        return UNKNOWN_TAG;
+    };
+    store(c.normal(vec2_of(p), r), out)
 }
 
 // The radius of the piece w, 0 where it is no arc, the angle that it turns, and its length.
@@ -104,10 +104,10 @@ pub fn jr_piece_measure(w: &[f64; 26], arc: u32, trace: u32, out: &mut [f64; 3])
     ensures number { result ≡ number_of (tag_due (is_piece arc trace) (Pieces.measure_due (piece w.now arc trace))) }
     ensures out { out.new ≡ after of_measure out.old (tag_due (is_piece arc trace) (Pieces.measure_due (piece w.now arc trace))) }
 {
-    match piece_of(w, arc, trace) {
-        Some(c) => store(c.measure(), out),
-        None => UNKNOWN_TAG,
-    }
+    let Some(c) = piece_of(w, arc, trace) else {
+        return UNKNOWN_TAG;
+    };
+    store(c.measure(), out)
 }
 
 // How many parts the piece w is integrated over, none of which turns more than an eighth of a
@@ -116,10 +116,10 @@ pub fn jr_piece_quadrature_pieces(w: &[f64; 26], arc: u32, trace: u32, out: &mut
     ensures number { result ≡ number_of (tag_due (is_piece arc trace) (Pieces.quadrature_due (piece w.now arc trace))) }
     ensures out { out.new ≡ after alone out.old (tag_due (is_piece arc trace) (Pieces.quadrature_due (piece w.now arc trace))) }
 {
-    match piece_of(w, arc, trace) {
-        Some(c) => store(c.quadrature_pieces(), out),
-        None => UNKNOWN_TAG,
-    }
+    let Some(c) = piece_of(w, arc, trace) else {
+        return UNKNOWN_TAG;
+    };
+    store(c.quadrature_pieces(), out)
 }
 
 // How many chords within `chord` of it draw the piece w, r away from the axis.
@@ -134,8 +134,8 @@ pub fn jr_piece_chords(
     ensures number { result ≡ number_of (tag_due (is_piece arc trace) (Pieces.chords_due (piece w.now arc trace) r chord)) }
     ensures out { out.new ≡ after alone out.old (tag_due (is_piece arc trace) (Pieces.chords_due (piece w.now arc trace) r chord)) }
 {
-    match piece_of(w, arc, trace) {
-        Some(c) => store(c.chords(r, chord), out),
-        None => UNKNOWN_TAG,
-    }
+    let Some(c) = piece_of(w, arc, trace) else {
+        return UNKNOWN_TAG;
+    };
+    store(c.chords(r, chord), out)
 }

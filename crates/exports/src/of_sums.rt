@@ -92,13 +92,13 @@ pub fn jr_revolution_add_piece(
     ensures number { result ≡ number_of (tag_due (is_piece arc trace) (Revolutions.add_due (cone c.now true) (vec3 o.now) (Revolutions.piece (piece w.now arc trace)) (sums running.old))) }
     ensures running { running.new ≡ after of_sums running.old (tag_due (is_piece arc trace) (Revolutions.add_due (cone c.now true) (vec3 o.now) (Revolutions.piece (piece w.now arc trace)) (sums running.old))) }
 {
-    match piece_of(w, arc, trace) {
-        Some(p) => store(
-            revolutions::add_piece(sums_of(running), cone_of(c, true), p, vec3_of(o)),
-            running,
-        ),
-        None => UNKNOWN_TAG,
-    }
+    let Some(p) = piece_of(w, arc, trace) else {
+        return UNKNOWN_TAG;
+    };
+    store(
+        revolutions::add_piece(sums_of(running), cone_of(c, true), p, vec3_of(o)),
+        running,
+    )
 }
 
 // Adds the running sums of a face on the cone c, with the body inside where `convex`, to the sums
@@ -132,11 +132,11 @@ pub fn jr_wall(
     ensures number { result ≡ number_of (tag_due (is_piece arc trace) (wall_due (piece w.now arc trace) r0 r1 (vec3 o.now) (sums acc.old))) }
     ensures acc { acc.new ≡ after of_sums acc.old (tag_due (is_piece arc trace) (wall_due (piece w.now arc trace) r0 r1 (vec3 o.now) (sums acc.old))) }
 {
-    match piece_of(w, arc, trace) {
-        Some(p) => store(
-            cut_walls::with_cut_wall(sums_of(acc), p, r0, r1, vec3_of(o)),
-            acc,
-        ),
-        None => UNKNOWN_TAG,
-    }
+    let Some(p) = piece_of(w, arc, trace) else {
+        return UNKNOWN_TAG;
+    };
+    store(
+        cut_walls::with_cut_wall(sums_of(acc), p, r0, r1, vec3_of(o)),
+        acc,
+    )
 }

@@ -25,10 +25,10 @@ pub fn jr_surface_plane(
     ensures number { result ≡ number_of (tag_due (is_surface kind arc trace) (some_due (Surfaces.plane_due (surface s.now kind convex arc trace)))) }
     ensures out { out.new ≡ after of_plane out.old (tag_due (is_surface kind arc trace) (some_due (Surfaces.plane_due (surface s.now kind convex arc trace)))) }
 {
-    match surface_of(s, kind, convex, arc, trace) {
-        Some(f) => store_some(f.plane(), out),
-        None => UNKNOWN_TAG,
-    }
+    let Some(f) = surface_of(s, kind, convex, arc, trace) else {
+        return UNKNOWN_TAG;
+    };
+    store_some(f.plane(), out)
 }
 
 // The cone that the surface s is, a cylinder with slope 0; 255 where it is neither.
@@ -43,10 +43,10 @@ pub fn jr_surface_revolution(
     ensures number { result ≡ number_of (tag_due (is_surface kind arc trace) (some_due (Surfaces.revolution_due (surface s.now kind convex arc trace)))) }
     ensures out { out.new ≡ after of_cone out.old (tag_due (is_surface kind arc trace) (some_due (Surfaces.revolution_due (surface s.now kind convex arc trace)))) }
 {
-    match surface_of(s, kind, convex, arc, trace) {
-        Some(f) => store_some(f.revolution(), out),
-        None => UNKNOWN_TAG,
-    }
+    let Some(f) = surface_of(s, kind, convex, arc, trace) else {
+        return UNKNOWN_TAG;
+    };
+    store_some(f.revolution(), out)
 }
 
 // The surface s moved by m, its tags as they were.
@@ -62,10 +62,10 @@ pub fn jr_surface_moved(
     ensures number { result ≡ number_of (tag_due (is_surface kind arc trace) (Surfaces.moved_due (surface s.now kind convex arc trace) (rigid m.now))) }
     ensures out { out.new ≡ stored with_surface out.old (tag_due (is_surface kind arc trace) (Surfaces.moved_due (surface s.now kind convex arc trace) (rigid m.now))) }
 {
-    match surface_of(s, kind, convex, arc, trace) {
-        Some(f) => store(f.moved(rigid_of(m)), out),
-        None => UNKNOWN_TAG,
-    }
+    let Some(f) = surface_of(s, kind, convex, arc, trace) else {
+        return UNKNOWN_TAG;
+    };
+    store(f.moved(rigid_of(m)), out)
 }
 
 // The unit normal of the surface s at its point p, out of the body.
@@ -81,8 +81,8 @@ pub fn jr_surface_normal_at(
     ensures number { result ≡ number_of (tag_due (is_surface kind arc trace) (Surfaces.normal_due (surface s.now kind convex arc trace) (vec3 p.now))) }
     ensures out { out.new ≡ after of_vec3 out.old (tag_due (is_surface kind arc trace) (Surfaces.normal_due (surface s.now kind convex arc trace) (vec3 p.now))) }
 {
-    match surface_of(s, kind, convex, arc, trace) {
-        Some(f) => store(f.normal_at(vec3_of(p)), out),
-        None => UNKNOWN_TAG,
-    }
+    let Some(f) = surface_of(s, kind, convex, arc, trace) else {
+        return UNKNOWN_TAG;
+    };
+    store(f.normal_at(vec3_of(p)), out)
 }

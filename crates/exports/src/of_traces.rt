@@ -33,10 +33,10 @@ pub fn jr_meet_point(m: &[f64; 10], turn: u32, phi: f64, n: f64, out: &mut [f64;
     ensures number { result ≡ number_of (tag_due (is_turn turn) (Meets.point_due (meet m.now turn) phi n)) }
     ensures out { out.new ≡ after of_points out.old (tag_due (is_turn turn) (Meets.point_due (meet m.now turn) phi n)) }
 {
-    match meet_of(m, turn) {
-        Some(c) => store(c.point(phi, n), out),
-        None => UNKNOWN_TAG,
-    }
+    let Some(c) = meet_of(m, turn) else {
+        return UNKNOWN_TAG;
+    };
+    store(c.point(phi, n), out)
 }
 
 // The v of the trace t at u, the neutral radius being n; 255 for a meet with `turn`, which has
@@ -45,8 +45,8 @@ pub fn jr_trace_v(t: &[f64; 10], kind: u32, u: f64, n: f64, out: &mut [f64; 1]) 
     ensures number { result ≡ number_of (tag_due (is_trace kind) (some_due (Traces.v_due (trace_of t.now kind) u n))) }
     ensures out { out.new ≡ after alone out.old (tag_due (is_trace kind) (some_due (Traces.v_due (trace_of t.now kind) u n))) }
 {
-    match trace_of(t, kind) {
-        Some(c) => store_some(c.v(u, n), out),
-        None => UNKNOWN_TAG,
-    }
+    let Some(c) = trace_of(t, kind) else {
+        return UNKNOWN_TAG;
+    };
+    store_some(c.v(u, n), out)
 }

@@ -1,12 +1,9 @@
 -- The running sums of a face after a path.
-use Rattle.traces.specs.declared.Trace.{Trace}
-use Rattle.profile_arcs.specs.declared.ProfileArc.{ProfileArc}
-use Rattle.std.specs.Prelude.{Float, Option}
+use Rattle.std.specs.Prelude.{Float}
 use Rattle.checked.specs.Checked.{Checked, ◌>>=◌, given}
-use Rattle.vectors.specs.declared.Vec2.{Vec2}
 use Rattle.vectors.specs.declared.Vec3.{Vec3}
-use Rattle.developments.specs.declared.Development.{Development}
-use Rattle.piece_curves.specs.PieceCurves.{curve_c}
+use Rattle.pieces.specs.declared.Rolled.{Rolled}
+use Rattle.pieces.specs.Pieces.{run_c}
 use Rattle.piece_lengths.specs.Counts.{quadrature_c}
 use Rattle.arcs.specs.declared.Arc.{Arc}
 use Rattle.cones.specs.declared.Cone.{Cone}
@@ -25,10 +22,10 @@ unfoldable pub face_path_at : FacePath → Float → Checked PathPoint
 face_path_at (track.Arc c) = arc_path_at c
 face_path_at (track.Piece d) = piece_path_at d
 
--- the running sums after a piece of the development `dev`
-unfoldable pub piece_path_c : Revolved → Development → Vec2 → Vec2 → Option ProfileArc → Option Trace → Integrals → Checked Integrals
-piece_path_c v dev from to arc trace s = do
-  c ← piece_path_of_c v.frame dev.origin dev.axis dev.start (curve_c from to dev.neutral arc trace)
+-- the running sums after a piece of a development
+unfoldable pub piece_path_c : Revolved → Rolled → Integrals → Checked Integrals
+piece_path_c v p s = do
+  c ← piece_path_of_c v.frame p.dev.origin p.dev.axis p.dev.start (run_c p)
   n ← quadrature_c c.run
   t ← path_along_c v (piece_path_at c) n s.surface
   given (record { surface = t })
@@ -41,7 +38,7 @@ with_arc_c cone o arc u v s = do
   arc_path_c w arc u v s
 
 -- a piece
-unfoldable pub with_piece_c : Cone → Vec3 → Development → Vec2 → Vec2 → Option ProfileArc → Option Trace → Integrals → Checked Integrals
-with_piece_c cone o dev from to arc trace s = do
+unfoldable pub with_piece_c : Cone → Vec3 → Rolled → Integrals → Checked Integrals
+with_piece_c cone o p s = do
   w ← revolved_c cone o
-  piece_path_c w dev from to arc trace s
+  piece_path_c w p s

@@ -26,7 +26,7 @@ piece_path_of_c f origin axis start piece = do
 unfoldable pub piece_path_at : PiecePath → Float → Checked PathPoint
 piece_path_at c t = do
   g ← rate_c c.run t
-  theta ← num c.start ⊕ num c.side ⊗ num g.u ⊘ num c.run.neutral
+  theta ← num c.start ⊕ num c.side ⊗ num g.u ⊘ num c.run.ends.neutral
   z ← num c.z ⊕ num c.side ⊗ num g.v
-  turn ← num c.side ⊗ num g.du ⊘ num c.run.neutral
+  turn ← num c.side ⊗ num g.du ⊘ num c.run.ends.neutral
   given (record { theta = theta; z = z; turn = turn })

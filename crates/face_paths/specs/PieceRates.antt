@@ -48,9 +48,9 @@ meet_c c t = do
   given (record { u = p.x; v = p.y; du = du })
 
 abbrev pub rate_by : CurveKind → PieceCurve → Float → Checked PieceRate
-rate_by way.Straight r t = straight_c r.from r.to t
-rate_by (way.Arc a) r t = arc_c a r.from r.to t
-rate_by (way.Wave w) r t = wave_c w r.from r.to r.neutral t
+rate_by way.Straight r t = straight_c r.ends.from r.ends.to t
+rate_by (way.Arc a) r t = arc_c a r.ends.from r.ends.to t
+rate_by (way.Wave w) r t = wave_c w r.ends.from r.ends.to r.ends.neutral t
 rate_by (way.Meet c) r t = meet_c c t
 
 unfoldable pub rate_c : PieceCurve → Float → Checked PieceRate

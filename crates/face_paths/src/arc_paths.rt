@@ -30,7 +30,7 @@ pub struct ArcPath {
 pub fn arc_path_of(f: Frame, arc: Arc, u: Vec3, v: Vec3) -> Result<ArcPath, Refusal>
     ensures { told result ≡ answered (arc_path_of_c f arc u v) }
 {
-    let s = sweep(arc.center, arc.axis, u, v)?;
+    let s = sweep(arc, u, v)?;
     let d = finite(dot(arc.axis, f.axis))?;
     let turn = finite(s * side(d))?;
     let start = angle(f, u)?;

@@ -1,6 +1,6 @@
 // The running sums of a face after a path, an arc or a piece of a development. Numbers may be of any
 // size.
-#![tactic(auto)]
+#![tactic(auto, unfolding(crate::specs::PieceRates::rate_c, crate::specs::Paths::face_path_at))]
 
 ghost use Rattle.std.specs.Prelude.{◌≡◌};
 ghost use Rattle.checked.specs.Told.{told};
@@ -13,14 +13,12 @@ use crate::piece_paths::{PiecePath, piece_path_at, piece_path_of};
 use arcs::Arc;
 use checked::Refusal;
 use cones::Cone;
-use developments::Development;
 use integrals::integrands::{PathPoint, Revolved, node, revolve};
 use integrals::panels::{Summand, along};
 use integrals::{Integrals, SurfaceIntegrals};
 use piece_lengths::counts::quadrature_pieces;
-use profile_arcs::ProfileArc;
-use traces::Trace;
-use vectors::{Vec2, Vec3};
+use pieces::Rolled;
+use vectors::Vec3;
 
 pub mod arc_paths;
 pub mod piece_paths;
@@ -83,21 +81,12 @@ pub fn with_arc(
     Ok(Integrals { surface: after })
 }
 
-// The running sums after a piece of the development `dev`.
-pub fn with_piece(
-    cone: Cone,
-    o: Vec3,
-    dev: Development,
-    from: Vec2,
-    to: Vec2,
-    arc: Option<ProfileArc>,
-    trace: Option<Trace>,
-    sums: Integrals,
-) -> Result<Integrals, Refusal>
-    ensures { told result ≡ answered (with_piece_c cone o dev from to arc trace sums) }
+// The running sums after a piece of a development.
+pub fn with_piece(cone: Cone, o: Vec3, p: Rolled, sums: Integrals) -> Result<Integrals, Refusal>
+    ensures { told result ≡ answered (with_piece_c cone o p sums) }
 {
     let surface = revolve(cone, o)?;
-    let d = piece_path_of(surface.frame, dev, from, to, arc, trace)?;
+    let d = piece_path_of(surface.frame, p)?;
     let n = quadrature_pieces(d.run)?;
     let path = FacePath::Piece(d);
     let after = along(&Outline { surface, path }, n, sums.surface)?;

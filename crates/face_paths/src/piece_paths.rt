@@ -2,20 +2,18 @@
 ghost use Rattle.std.specs.Prelude.{◌≡◌};
 ghost use Rattle.checked.specs.Checked.{answered};
 ghost use Rattle.checked.specs.Told.{told};
-ghost use Rattle.piece_curves.specs.PieceCurves.{curve_c};
+ghost use Rattle.pieces.specs.Pieces.{run_c};
 ghost use Rattle.face_paths.specs.PiecePaths.{piece_path_of_c, piece_path_at};
 
 use crate::piece_rates::rate_at;
 use checked::{Refusal, finite};
 use cones::Frame;
-use developments::Development;
 use integrals::integrands::PathPoint;
 use integrals::side;
-use piece_curves::{PieceCurve, curve_of};
-use profile_arcs::ProfileArc;
+use piece_curves::PieceCurve;
+use pieces::Rolled;
+use pieces::formula::run;
 use profile_arcs::angles::angle;
-use traces::Trace;
-use vectors::Vec2;
 use vectors::formula::{dot, minus};
 
 // A piece on a cylinder: the angle where its development starts, which way its u turns, and where
@@ -28,21 +26,14 @@ pub struct PiecePath {
     pub z: f64,
 }
 
-// The path of a piece of the development `dev`.
-pub fn piece_path_of(
-    f: Frame,
-    dev: Development,
-    from: Vec2,
-    to: Vec2,
-    arc: Option<ProfileArc>,
-    trace: Option<Trace>,
-) -> Result<PiecePath, Refusal>
-    ensures { told result ≡ answered (piece_path_of_c f dev.origin dev.axis dev.start (curve_c from to dev.neutral arc trace)) }
+// The path of a piece.
+pub fn piece_path_of(f: Frame, p: Rolled) -> Result<PiecePath, Refusal>
+    ensures { told result ≡ answered (piece_path_of_c f p.dev.origin p.dev.axis p.dev.start (run_c p)) }
 {
-    let d = finite(dot(dev.axis, f.axis))?;
-    let start = angle(dot(dev.start, f.e2), dot(dev.start, f.e1))?;
-    let z = finite(dot(minus(dev.origin, f.origin), f.axis))?;
-    let run = curve_of(from, to, dev.neutral, arc, trace)?;
+    let d = finite(dot(p.dev.axis, f.axis))?;
+    let start = angle(dot(p.dev.start, f.e2), dot(p.dev.start, f.e1))?;
+    let z = finite(dot(minus(p.dev.origin, f.origin), f.axis))?;
+    let run = run(p)?;
     Ok(PiecePath {
         run,
         start,
@@ -55,7 +46,7 @@ pub fn piece_path_of(
 pub fn piece_path_at(c: PiecePath, t: f64) -> Result<PathPoint, Refusal>
     ensures { told result ≡ answered (piece_path_at c t) }
 {
-    let n = c.run.neutral;
+    let n = c.run.ends.neutral;
     let g = rate_at(c.run, t)?;
     let theta = finite(c.start + c.side * g.u / n)?;
     let z = finite(c.z + c.side * g.v)?;

@@ -8,9 +8,8 @@ ghost use Rattle.face_paths.specs.PieceRates.{straight_c, arc_c, wave_c, meet_c,
 use checked::{Refusal, finite};
 use piece_curves::meet_curves::{MeetCurve, motion, placed};
 use piece_curves::points::swing;
-use piece_curves::{CurveKind, PieceCurve};
+use piece_curves::{CurveKind, Ends, PieceCurve};
 use profile_arcs::ProfileArc;
-use vectors::Vec2;
 use waves::{Wave, values};
 
 #[derive(Clone, Copy)]
@@ -20,32 +19,32 @@ pub struct PieceRate {
     pub du: f64,
 }
 
-fn straight_rate(from: Vec2, to: Vec2, t: f64) -> Result<PieceRate, Refusal>
-    ensures { told result ≡ answered (straight_c from to t) }
+fn straight_rate(ends: Ends, t: f64) -> Result<PieceRate, Refusal>
+    ensures { told result ≡ answered (straight_c ends.from ends.to t) }
 {
-    let du = finite(to.x - from.x)?;
-    let dv = finite(to.y - from.y)?;
-    let u = finite(from.x + du * t)?;
-    let v = finite(from.y + dv * t)?;
+    let du = finite(ends.to.x - ends.from.x)?;
+    let dv = finite(ends.to.y - ends.from.y)?;
+    let u = finite(ends.from.x + du * t)?;
+    let v = finite(ends.from.y + dv * t)?;
     Ok(PieceRate { u, v, du })
 }
 
-fn arc_rate(a: ProfileArc, from: Vec2, to: Vec2, t: f64) -> Result<PieceRate, Refusal>
-    ensures { told result ≡ answered (arc_c a from to t) }
+fn arc_rate(a: ProfileArc, ends: Ends, t: f64) -> Result<PieceRate, Refusal>
+    ensures { told result ≡ answered (arc_c a ends.from ends.to t) }
 {
-    let w = swing(a, from, to, t)?;
+    let w = swing(a, ends, t)?;
     let u = finite(a.center.x + w.x)?;
     let v = finite(a.center.y + w.y)?;
     let du = finite(-w.phi * w.y)?;
     Ok(PieceRate { u, v, du })
 }
 
-fn wave_rate(w: Wave, from: Vec2, to: Vec2, n: f64, t: f64) -> Result<PieceRate, Refusal>
-    ensures { told result ≡ answered (wave_c w from to n t) }
+fn wave_rate(w: Wave, ends: Ends, t: f64) -> Result<PieceRate, Refusal>
+    ensures { told result ≡ answered (wave_c w ends.from ends.to ends.neutral t) }
 {
-    let du = to.x - from.x;
-    let u = finite(from.x + du * t)?;
-    let v = values::v(w.a, w.b, w.c, u, n)?;
+    let du = ends.to.x - ends.from.x;
+    let u = finite(ends.from.x + du * t)?;
+    let v = values::v(w, u, ends.neutral)?;
     Ok(PieceRate { u, v, du })
 }
 
@@ -62,11 +61,10 @@ fn meet_rate(c: MeetCurve, t: f64) -> Result<PieceRate, Refusal>
 pub fn rate_at(r: PieceCurve, t: f64) -> Result<PieceRate, Refusal>
     ensures { told result ≡ answered (rate_c r t) }
 {
-    let w = r.way;
-    match w {
-        CurveKind::Straight => straight_rate(r.from, r.to, t),
-        CurveKind::Arc(a) => arc_rate(a, r.from, r.to, t),
-        CurveKind::Wave(v) => wave_rate(v, r.from, r.to, r.neutral, t),
+    match r.way {
+        CurveKind::Straight => straight_rate(r.ends, t),
+        CurveKind::Arc(a) => arc_rate(a, r.ends, t),
+        CurveKind::Wave(v) => wave_rate(v, r.ends, t),
         CurveKind::Meet(c) => meet_rate(c, t),
     }
 }

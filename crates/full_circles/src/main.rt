@@ -9,7 +9,6 @@ use arcs::Arc;
 use checked::TAU;
 use libm::atan2;
 use std::io;
-use std::num::wrapping_add_u64;
 use vectors::Vec3;
 
 // 2^-51.
@@ -17,22 +16,24 @@ const LOST: f64 = 4.440892098500626e-16;
 
 const CALLS: u32 = 1_000_000;
 
-fn about_z() -> Arc {
-    Arc {
-        center: Vec3::ZERO,
-        axis: Vec3::new(0.0, 0.0, 1.0),
-        radius: 5.0,
-    }
-}
+const ABOUT_Z: Arc = Arc {
+    center: Vec3::ZERO,
+    axis: Vec3::ALONG_Z,
+    radius: 5.0,
+};
 
 // The sweep from a point to another, or 0, which is no sweep, where it is refused.
 fn sweep_of(from: Vec3, to: Vec3) -> f64 {
-    about_z().sweep(from, to).unwrap_or(0.0)
+    ABOUT_Z.sweep(from, to).unwrap_or(0.0)
 }
 
 // The sweep from a point to the one beside it with another y, given by its pattern.
 fn show(rt: &impl Print, name: &str, from: Vec3, y: u64) -> io::Result<()> {
-    let sweep = sweep_of(from, Vec3::new(from.x, checked::of_bits(y), 0.0));
+    let to = Vec3 {
+        y: checked::of_bits(y),
+        ..from
+    };
+    let sweep = sweep_of(from, to);
     let bits = checked::bits(sweep);
     print!(rt; "{name}{bits:016x}")?;
     if sweep == TAU {
@@ -66,8 +67,8 @@ fn length(seed: u64) -> f64 {
 
 // The number up to 16 bits below or above x.
 fn beside(x: f64, seed: u64) -> f64 {
-    let bits = wrapping_add_u64(checked::bits(x), seed / 0x1_0000 % 33);
-    checked::of_bits(wrapping_add_u64(bits, 0xffff_ffff_ffff_fff0))
+    let bits = checked::bits(x).wrapping_add(seed / 0x1_0000 % 33);
+    checked::of_bits(bits.wrapping_sub(16))
 }
 
 // An arc to another point, or to one beside its start.
@@ -76,19 +77,23 @@ fn is_drawn_as_proved(seed: u64) -> bool {
     let b = drawn(a);
     let c = drawn(b);
     let from = Vec3::new(length(a), length(b), 0.0);
-    if seed % 2 == 0 {
-        is_as_proved(from, Vec3::new(-length(c), length(drawn(c)), 0.0))
+    let to = if seed % 2 == 0 {
+        Vec3::new(-length(c), length(drawn(c)), 0.0)
     } else {
-        is_as_proved(from, Vec3::new(from.x, beside(from.y, c), 0.0))
-    }
+        Vec3 {
+            y: beside(from.y, c),
+            ..from
+        }
+    };
+    is_as_proved(from, to)
 }
 
 fn count(calls: u32) -> u32 {
     let mut seed = 1;
-    let mut good = 0;
+    let mut good = 0u32;
     for _ in 0..calls {
         if is_drawn_as_proved(seed) {
-            good = std::num::wrapping_add_u32(good, 1);
+            good = good.saturating_add(1);
         }
         seed = drawn(seed);
     }

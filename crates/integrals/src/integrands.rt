@@ -1,5 +1,7 @@
 // What is integrated over a surface of revolution, and the step of a sum at one node. Numbers may
 // be of any size.
+#![tactic(auto, unfolding(crate::specs::Integrands::term_c, crate::specs::Integrands::term3_c, crate::specs::Integrands::terms_c, crate::specs::Integrands::patch_c))]
+
 ghost use Rattle.std.specs.Prelude.{◌≡◌};
 ghost use Rattle.checked.specs.Told.{told};
 ghost use Rattle.checked.specs.Checked.{settled, answered};

@@ -28,7 +28,7 @@ fn sq(x: f64) -> Square
     let xl = x - xh;
     let hi = x * x;
     Square {
-        hi: hi,
+        hi,
         lo: xh * xh - hi + 2.0 * xh * xl + xl * xl,
     }
 }

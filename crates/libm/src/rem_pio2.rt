@@ -23,6 +23,13 @@ const PIO2_3: f64 = 2.02226624871116645580e-21;
 
 const PIO2_3T: f64 = 8.47842766036889956997e-32;
 
+// An angle at which a sine is worked out.
+#[derive(Clone, Copy)]
+pub struct Angle {
+    pub x: f64,
+    ghost within: { T (within x) },
+}
+
 // What is left of an angle after whole quarter turns, in two parts, and the two lowest bits of
 // their number.
 #[derive(Clone, Copy)]
@@ -37,8 +44,8 @@ fn parted(quarter: u64, r: f64, w: f64) -> Rest
 {
     let y0 = r - w;
     Rest {
-        quarter: quarter,
-        y0: y0,
+        quarter,
+        y0,
         y1: (r - y0) - w,
     }
 }
@@ -66,15 +73,14 @@ fn second_round(ex: u64, quarter: u64, f_n: f64, t: f64) -> Rest
 
 // tmp is whole, and 1.5 times 2^52 more than the number of quarter turns: its pattern ends as that
 // number does.
-fn medium(x: f64, ix: u64) -> Rest
-    requires { T (within x) }
-    ensures { result ≡ Reduction.medium x ix }
+fn medium(a: Angle, ix: u64) -> Rest
+    ensures { result ≡ Reduction.medium a.x ix }
 {
-    let tmp = x * INV_PIO2 + TO_INT;
+    let tmp = a.x * INV_PIO2 + TO_INT;
     let f_n = tmp - TO_INT;
     let quarter = f64::to_bits(tmp) % 4;
     let ex = ix / 0x10_0000;
-    let r = x - f_n * PIO2_1;
+    let r = a.x - f_n * PIO2_1;
     let w = f_n * PIO2_1T;
     if exponent(r - w) + 16 < ex {
         second_round(ex, quarter, f_n, r)
@@ -89,8 +95,8 @@ fn taken_off(quarter: u64, x: f64, p: f64, t: f64) -> Rest
     let z = x - p;
     let y0 = z - t;
     Rest {
-        quarter: quarter,
-        y0: y0,
+        quarter,
+        y0,
         y1: (z - y0) - t,
     }
 }
@@ -101,67 +107,64 @@ fn added(quarter: u64, x: f64, p: f64, t: f64) -> Rest
     let z = x + p;
     let y0 = z + t;
     Rest {
-        quarter: quarter,
-        y0: y0,
+        quarter,
+        y0,
         y1: (z - y0) + t,
     }
 }
 
-fn to_five(x: f64, ix: u64) -> Rest
-    requires { T (within x) }
-    ensures { result ≡ Reduction.to_five x ix }
+fn to_five(a: Angle, ix: u64) -> Rest
+    ensures { result ≡ Reduction.to_five a.x ix }
 {
     if ix % 0x10_0000 == 0x9_21fb {
-        medium(x, ix)
+        medium(a, ix)
     } else if ix <= 0x4002_d97c {
-        if sign(x) == 0 {
-            taken_off(1, x, PIO2_1, PIO2_1T)
+        if sign(a.x) == 0 {
+            taken_off(1, a.x, PIO2_1, PIO2_1T)
         } else {
-            added(3, x, PIO2_1, PIO2_1T)
+            added(3, a.x, PIO2_1, PIO2_1T)
         }
     } else {
-        if sign(x) == 0 {
-            taken_off(2, x, 2.0 * PIO2_1, 2.0 * PIO2_1T)
+        if sign(a.x) == 0 {
+            taken_off(2, a.x, 2.0 * PIO2_1, 2.0 * PIO2_1T)
         } else {
-            added(2, x, 2.0 * PIO2_1, 2.0 * PIO2_1T)
+            added(2, a.x, 2.0 * PIO2_1, 2.0 * PIO2_1T)
         }
     }
 }
 
-fn to_nine(x: f64, ix: u64) -> Rest
-    requires { T (within x) }
-    ensures { result ≡ Reduction.to_nine x ix }
+fn to_nine(a: Angle, ix: u64) -> Rest
+    ensures { result ≡ Reduction.to_nine a.x ix }
 {
     if ix <= 0x4015_fdbc {
         if ix == 0x4012_d97c {
-            medium(x, ix)
-        } else if sign(x) == 0 {
-            taken_off(3, x, 3.0 * PIO2_1, 3.0 * PIO2_1T)
+            medium(a, ix)
+        } else if sign(a.x) == 0 {
+            taken_off(3, a.x, 3.0 * PIO2_1, 3.0 * PIO2_1T)
         } else {
-            added(1, x, 3.0 * PIO2_1, 3.0 * PIO2_1T)
+            added(1, a.x, 3.0 * PIO2_1, 3.0 * PIO2_1T)
         }
     } else {
         if ix == 0x4019_21fb {
-            medium(x, ix)
-        } else if sign(x) == 0 {
-            taken_off(0, x, 4.0 * PIO2_1, 4.0 * PIO2_1T)
+            medium(a, ix)
+        } else if sign(a.x) == 0 {
+            taken_off(0, a.x, 4.0 * PIO2_1, 4.0 * PIO2_1T)
         } else {
-            added(0, x, 4.0 * PIO2_1, 4.0 * PIO2_1T)
+            added(0, a.x, 4.0 * PIO2_1, 4.0 * PIO2_1T)
         }
     }
 }
 
 // What is left of x, which is above π/4 in magnitude.
-pub fn rem_pio2(x: f64) -> Rest
-    requires { T (within x) }
-    ensures { result ≡ Reduction.rem_pio2 x }
+pub fn rem_pio2(a: Angle) -> Rest
+    ensures { result ≡ Reduction.rem_pio2 a.x }
 {
-    let ix = high_word(x);
+    let ix = high_word(a.x);
     if ix <= 0x400f_6a7a {
-        to_five(x, ix)
+        to_five(a, ix)
     } else if ix <= 0x401c_463b {
-        to_nine(x, ix)
+        to_nine(a, ix)
     } else {
-        medium(x, ix)
+        medium(a, ix)
     }
 }

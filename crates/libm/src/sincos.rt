@@ -1,12 +1,13 @@
 // Sine and cosine of libm 0.2.1 at angles of at most 1,048,576 in magnitude: specs/Circle.antt has
 // them operation by operation.
-ghost use Rattle.std.specs.Prelude.{◌≡◌, T};
-ghost use Rattle.checked.specs.Told.{told, failed};
-ghost use Rattle.checked.specs.Checked.{answered, first, nine, eight, within};
+ghost use Rattle.std.specs.Prelude.{◌≡◌, IfOk};
+ghost use Rattle.checked.specs.Answers.{number_of};
+ghost use Rattle.checked.specs.Told.{told};
+ghost use Rattle.checked.specs.Checked.{answered, first, nine, eight};
 ghost use Rattle.libm.specs.Sincos as Circle;
 
 use crate::k_trig::{k_cos, k_sin, k_sin0};
-use crate::rem_pio2::{Rest, rem_pio2};
+use crate::rem_pio2::{Angle, Rest, rem_pio2};
 use checked::{Refusal, finite, high_word, is_within};
 use float_bits::choose;
 
@@ -17,12 +18,13 @@ pub struct Sines {
     pub cos: f64,
 }
 
-// An angle is finite, and at most 1,048,576 in magnitude.
-fn require_angle(x: f64) -> Result<(), Refusal>
-    ensures { failed result ≡ first (nine x) (eight x) }
+// The angle x, or its refusal.
+fn angle(x: f64) -> Result<Angle, Refusal>
+    ensures refusal { number_of (told result) ≡ first (nine x) (eight x) }
+    ensures angle { IfOk result (λ a. a.x ≡ x) }
 {
     if is_within(x) {
-        Ok(())
+        Ok(Angle { x })
     } else {
         finite(x)?;
         Err(Refusal::AngleTooLarge)
@@ -39,34 +41,29 @@ fn small_sine(ix: u64, x: f64) -> f64
 fn turned_sine(r: Rest) -> f64
     ensures { result ≡ Circle.turned_sine r }
 {
-    if r.quarter == 0 {
-        k_sin(r.y0, r.y1)
-    } else if r.quarter == 1 {
-        k_cos(r.y0, r.y1)
-    } else if r.quarter == 2 {
-        -k_sin(r.y0, r.y1)
-    } else {
-        -k_cos(r.y0, r.y1)
+    match r.quarter {
+        0 => k_sin(r.y0, r.y1),
+        1 => k_cos(r.y0, r.y1),
+        2 => -k_sin(r.y0, r.y1),
+        _ => -k_cos(r.y0, r.y1),
     }
 }
 
-fn sine(x: f64) -> f64
-    requires { T (within x) }
-    ensures { result ≡ Circle.sine x }
+fn sine(a: Angle) -> f64
+    ensures { result ≡ Circle.sine a.x }
 {
-    let ix = high_word(x);
+    let ix = high_word(a.x);
     if ix <= 0x3fe9_21fb {
-        small_sine(ix, x)
+        small_sine(ix, a.x)
     } else {
-        turned_sine(rem_pio2(x))
+        turned_sine(rem_pio2(a))
     }
 }
 
 pub fn sin(x: f64) -> Result<f64, Refusal>
     ensures { told result ≡ answered (Circle.sin_c x) }
 {
-    require_angle(x)?;
-    Ok(sine(x))
+    Ok(sine(angle(x)?))
 }
 
 fn small_sines(ix: u64, x: f64) -> Sines
@@ -93,21 +90,19 @@ fn turned_sines(r: Rest) -> Sines
     }
 }
 
-fn both_sines(x: f64) -> Sines
-    requires { T (within x) }
-    ensures { result ≡ Circle.sines x }
+fn both_sines(a: Angle) -> Sines
+    ensures { result ≡ Circle.sines a.x }
 {
-    let ix = high_word(x);
+    let ix = high_word(a.x);
     if ix <= 0x3fe9_21fb {
-        small_sines(ix, x)
+        small_sines(ix, a.x)
     } else {
-        turned_sines(rem_pio2(x))
+        turned_sines(rem_pio2(a))
     }
 }
 
 pub fn sincos(x: f64) -> Result<Sines, Refusal>
     ensures { told result ≡ answered (Circle.sincos_c x) }
 {
-    require_angle(x)?;
-    Ok(both_sines(x))
+    Ok(both_sines(angle(x)?))
 }

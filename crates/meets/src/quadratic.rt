@@ -4,6 +4,7 @@ ghost use Rattle.checked.specs.Checked.{answered};
 ghost use Rattle.checked.specs.Told.{told};
 ghost use Rattle.meets.specs.Quadratic.{own_c, other_c, lesser_c, intersection_c};
 
+use crate::Meet;
 use checked::{Refusal, finite};
 use directions::formula::{across, over_length};
 use libm::sincos::sincos;
@@ -50,37 +51,37 @@ pub struct Intersection {
 }
 
 // The development's own pipe, of radius n along z, or against it where `own` is -1; the cylinder met is the one that is given.
-pub fn own_pipe(origin: Vec3, axis: Vec3, radius: f64, own: f64, n: f64) -> Result<Pipe, Refusal>
-    ensures { told result ≡ answered (own_c origin axis radius own n) }
+pub fn own_pipe(m: Meet, n: f64) -> Result<Pipe, Refusal>
+    ensures { told result ≡ answered (own_c m.origin m.axis m.radius m.own n) }
 {
-    let a = finite3(times(Vec3::ALONG_Z, own))?;
+    let a = finite3(times(Vec3::ALONG_Z, m.own))?;
     Ok(Pipe {
         o: Vec3::ZERO,
         a,
         e1: Vec3::ALONG_X,
         e2: Vec3::ALONG_Y,
         r: n,
-        mo: origin,
-        ma: axis,
-        mr: radius,
+        mo: m.origin,
+        ma: m.axis,
+        mr: m.radius,
     })
 }
 
 // The pipe that is given, its generatrices towards the development's own cylinder, of radius `own`.
-pub fn other_pipe(origin: Vec3, axis: Vec3, radius: f64, own: f64) -> Result<Pipe, Refusal>
-    ensures { told result ≡ answered (other_c origin axis radius own) }
+pub fn other_pipe(m: Meet) -> Result<Pipe, Refusal>
+    ensures { told result ≡ answered (other_c m.origin m.axis m.radius m.own) }
 {
-    let e1 = over_length(cross(Vec3::ALONG_Z, axis))?;
-    let e2 = finite3(cross(axis, e1))?;
+    let e1 = over_length(cross(Vec3::ALONG_Z, m.axis))?;
+    let e2 = finite3(cross(m.axis, e1))?;
     Ok(Pipe {
-        o: origin,
-        a: axis,
+        o: m.origin,
+        a: m.axis,
         e1,
         e2,
-        r: radius,
+        r: m.radius,
         mo: Vec3::ZERO,
         ma: Vec3::ALONG_Z,
-        mr: own,
+        mr: m.own,
     })
 }
 

@@ -1,4 +1,6 @@
 // The formulas of motions on numbers of any size.
+#![tactic(auto, unfolding(crate::specs::Motions::diagonal_c, crate::specs::Motions::more_c, crate::specs::Motions::less_c, crate::specs::Motions::rows_c, crate::specs::Motions::frame_of, crate::specs::Motions::apply_vector_c, crate::specs::Motions::apply_c))]
+
 ghost use Rattle.std.specs.Prelude.{◌≡◌};
 ghost use Rattle.checked.specs.Told.{told};
 ghost use Rattle.checked.specs.Checked.{answered, settled};

@@ -1,5 +1,5 @@
 // Rigid motions. What a program may call is here, the formulas are in `formula`.
-#![tactic(auto)]
+#![tactic(auto, using(checked::specs::ToldLaws::exit_is, checked::specs::ToldLaws::passing_number, checked::specs::ToldLaws::passes, crate::specs::Laws::apply_nine, crate::specs::Laws::apply_vector_nine), unfolding(crate::specs::Motions::within_rigid, crate::specs::Motions::rotation_due, crate::specs::Motions::frame_due, crate::specs::Motions::apply_due, crate::specs::Motions::apply_vector_due))]
 
 ghost use Rattle.std.specs.Prelude.{◌≡◌, ◌&&◌};
 ghost use Rattle.checked.specs.Told.{told};

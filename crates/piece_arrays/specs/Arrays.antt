@@ -4,8 +4,7 @@ use Rattle.traces.specs.declared.Trace.{Trace}
 use Rattle.profile_arcs.specs.declared.ProfileArc.{ProfileArc}
 use Rattle.std.specs.Prelude.{ℕ, Bool, cond, ◌&&◌, List, [], ◌∷◌, ◌++◌, eqb, leb, Float, Some, None, Option}
 use Rattle.vectors.specs.declared.Vec2.{Vec2}
-use Rattle.meets.specs.declared.Turn.{Turn}
-use Rattle.meets.specs.declared.Turn.TheVariants as turn
+use Rattle.meets.specs.declared.Angles.{Angles}
 use Rattle.meets.specs.declared.Meet.{Meet}
 use Rattle.traces.specs.declared.Trace.TheVariants as trace
 use Rattle.pieces.specs.declared.Rolled.{Rolled}
@@ -59,9 +58,9 @@ arc_tag None = 0
 arc_tag (Some a) = cond a.ccw 1 2
 
 -- 2 a meet without `turn`, 3 a meet with it
-unfoldable pub turn_tag : Turn → ℕ
-turn_tag turn.Without = 2
-turn_tag (turn.Angles f g) = 3
+unfoldable pub turn_tag : Option Angles → ℕ
+turn_tag None = 2
+turn_tag (Some a) = 3
 
 -- 0 none, 1 a wave, else a meet's
 unfoldable pub trace_tag : Option Trace → ℕ
@@ -82,9 +81,9 @@ of_centre None = []
 of_centre (Some a) = a.center.x ∷ a.center.y ∷ []
 
 -- the two angles, where there are two
-unfoldable pub of_turn : Turn → List Float
-of_turn turn.Without = []
-of_turn (turn.Angles f g) = f ∷ g ∷ []
+unfoldable pub of_turn : Option Angles → List Float
+of_turn None = []
+of_turn (Some a) = a.from ∷ a.to ∷ []
 
 -- of a meet: origin, axis, radius, own; then the two angles
 abbrev pub of_cylinder : Meet → List Float

@@ -7,8 +7,7 @@ use Rattle.std.proofs.Math.Bool.{true, false}
 use Rattle.vectors.specs.declared.Vec2.{Vec2}
 use Rattle.vectors.specs.declared.Vec3.{Vec3}
 use Rattle.developments.specs.declared.Development.{Development}
-use Rattle.meets.specs.declared.Turn.{Turn}
-use Rattle.meets.specs.declared.Turn.TheVariants as turn
+use Rattle.meets.specs.declared.Angles.{Angles}
 use Rattle.traces.specs.declared.Trace.TheVariants as trace
 use Rattle.pieces.specs.declared.Rolled.{Rolled}
 use Rattle.c_arrays.specs.Records.{over}
@@ -28,13 +27,13 @@ module _ (a0 a1 a2 a3 a4 a5 a6 a7 a8 a9 a10 a11 a12 a13 a14 a15 a16 a17 a18 a19 
     abbrev bow : Vec2 → Bool → Option ProfileArc
     bow c ccw = Some (record { center = c; ccw = ccw })
 
-    abbrev hole : Vec3 → Vec3 → Float → Float → Turn → Option Trace
+    abbrev hole : Vec3 → Vec3 → Float → Float → Option Angles → Option Trace
     hole o x r own k = Some (trace.Meet (record { origin = o; axis = x; radius = r; own = own; turn = k }))
 
-    bare_hole : (o x : Vec3) (r own : Float) (k : Turn) → Back (rolled None (hole o x r own k))
+    bare_hole : (o x : Vec3) (r own : Float) (k : Option Angles) → Back (rolled None (hole o x r own k))
     unfolding with_piece over arc_tag trace_tag turn_tag of_centre of_trace of_meet of_turn
-    bare_hole o x r own turn.Without = refl
-    bare_hole o x r own (turn.Angles f g) = refl
+    bare_hole o x r own None = refl
+    bare_hole o x r own (Some a) = refl
 
     bare : (t : Option Trace) → Back (rolled None t)
     unfolding with_piece over arc_tag trace_tag of_centre of_trace
@@ -42,12 +41,12 @@ module _ (a0 a1 a2 a3 a4 a5 a6 a7 a8 a9 a10 a11 a12 a13 a14 a15 a16 a17 a18 a19 
     bare (Some (trace.Wave w)) = refl
     bare (Some (trace.Meet m)) = bare_hole m.origin m.axis m.radius m.own m.turn
 
-    bowed_hole : (c : Vec2) (ccw : Bool) (o x : Vec3) (r own : Float) (k : Turn) → Back (rolled (bow c ccw) (hole o x r own k))
+    bowed_hole : (c : Vec2) (ccw : Bool) (o x : Vec3) (r own : Float) (k : Option Angles) → Back (rolled (bow c ccw) (hole o x r own k))
     unfolding with_piece over arc_tag trace_tag turn_tag of_centre of_trace of_meet of_turn
-    bowed_hole c true o x r own turn.Without = refl
-    bowed_hole c true o x r own (turn.Angles f g) = refl
-    bowed_hole c false o x r own turn.Without = refl
-    bowed_hole c false o x r own (turn.Angles f g) = refl
+    bowed_hole c true o x r own None = refl
+    bowed_hole c true o x r own (Some a) = refl
+    bowed_hole c false o x r own None = refl
+    bowed_hole c false o x r own (Some a) = refl
 
     bowed : (c : Vec2) (ccw : Bool) (t : Option Trace) → Back (rolled (bow c ccw) t)
     unfolding with_piece over arc_tag trace_tag of_centre of_trace

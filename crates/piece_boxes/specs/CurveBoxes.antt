@@ -39,9 +39,9 @@ wave_c w f g n = do
 
 -- of a piece, where its way is known
 abbrev pub box_by : CurveKind → PieceCurve → Checked FlatBox
-box_by way.Straight r = given (ends r.from r.to)
-box_by (way.Arc a) r = arc_c a r.from r.to
-box_by (way.Wave w) r = wave_c w r.from r.to r.neutral
+box_by way.Straight r = given (ends r.ends.from r.ends.to)
+box_by (way.Arc a) r = arc_c a r.ends.from r.ends.to
+box_by (way.Wave w) r = wave_c w r.ends.from r.ends.to r.ends.neutral
 box_by (way.Meet c) r = meets.box_c c
 
 -- `Rolled::uv_box`

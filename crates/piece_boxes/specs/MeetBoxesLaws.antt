@@ -1,12 +1,12 @@
--- Laws of a meet's box: the step of its first loop, and the rows that hold the samples. Assumes
--- nothing.
-use Rattle.std.specs.Prelude.{ℕ, ◌+◌, ◌<◌, ◌≡◌, refl, true, false, List, length, get_or, set, Float}
+-- Laws of a meet's box: the steps of its loops, and the row that holds the samples. Assumes nothing.
+use Rattle.std.specs.Prelude.{ℕ, ◌+◌, ◌<◌, ◌≡◌, refl, true, false, List, length, set, Float}
 use Rattle.std.proofs.Common.{◌∙◌, arith, below_more, get_or-set_same, get_or-set_other}
-use Rattle.std.specs.Float.{nan, binary64}
+use Rattle.std.specs.Float.{binary64}
 use Rattle.std.specs.Float.Ieee.{div}
 use Rattle.checked.specs.Checked.{Checked, first, nine}
 use Rattle.checked.specs.Laws.{rules as checked_rules}
 use Rattle.checked.specs.Numbers.{float}
+use Rattle.vectors.specs.declared.Vec2.{Vec2}
 use Rattle.vectors.specs.Vectors.{plane}
 use Rattle.piece_curves.specs.declared.meet_curves.MeetCurve.{MeetCurve}
 use Rattle.piece_curves.specs.MeetCurves.{slope_u_c, slope_v_c}
@@ -29,17 +29,13 @@ pub sample_value : (c : MeetCurve) (k : ℕ) → (sample_c c k).value ≡ plane 
 unfolding sample_c
 sample_value c k = refl
 
--- one number more in a row that holds f at the first k places
-row_more : (f : ℕ → Float) (us : List Float) (k : ℕ) → k < length us → ((j : ℕ) → j < k → get_or us j nan ≡ f j) → (j : ℕ) → j < k + 1 → get_or (set us k (f k)) j nan ≡ f j
-row_more f us k h all = below_more _ k (λ j l. get_or-set_other us k j (f k) nan (λ e. omega arith) ∙ all j l) (get_or-set_same us k (f k) nan h)
+-- a row that holds no sample, and one that holds one more
+pub stored_none : (c : MeetCurve) (slopes : List Vec2) → Stored c 0 slopes
+stored_none c slopes = record { held = λ j l. absurd (omega arith) }
 
-pub stored_none : (c : MeetCurve) (us vs : List Float) → Stored c 0 us vs
-stored_none c us vs = record { along = λ j l. absurd (omega arith); upright = λ j l. absurd (omega arith) }
-
-pub stored_more : (c : MeetCurve) (k : ℕ) (us vs : List Float) → k < length us → k < length vs → Stored c k us vs → Stored c (k + 1) (set us k (sample_c c k).value.x) (set vs k (sample_c c k).value.y)
-stored_more c k us vs a b s = record {
-  along = row_more (λ j. (sample_c c j).value.x) us k a s.along;
-  upright = row_more (λ j. (sample_c c j).value.y) vs k b s.upright;
+pub stored_more : (c : MeetCurve) (k : ℕ) (slopes : List Vec2) → k < length slopes → Stored c k slopes → Stored c (k + 1) (set slopes k (sample_c c k).value)
+stored_more c k slopes h s = record {
+  held = below_more _ k (λ j l. get_or-set_other slopes k j _ _ (λ e. omega arith) ∙ s.held j l) (get_or-set_same slopes k _ _ h);
 }
 
 -- a step's refusal, and what it reaches
@@ -51,18 +47,18 @@ pub step_value : (c : MeetCurve) (k : ℕ) (b : FlatBox) → (step_c c k b).valu
 unfolding step_c
 step_value c k b = refl
 
--- between two places, by the rows
-module _ (c : MeetCurve) (k : ℕ) (b : FlatBox) (us vs : List Float) (s : Stored c 65 us vs) (h : k < 64) where
+-- between two places
+module _ (c : MeetCurve) (k : ℕ) (b : FlatBox) where
   abbrev pub along : Checked FlatBox
-  along = bracket_c c false k (get_or us k nan) (get_or us (k + 1) nan) b
+  along = bracket_c c false k (sample_c c k).value.x (sample_c c (k + 1)).value.x b
 
   abbrev pub upright : Checked FlatBox
-  upright = bracket_c c true k (get_or vs k nan) (get_or vs (k + 1) nan) along.value
+  upright = bracket_c c true k (sample_c c k).value.y (sample_c c (k + 1)).value.y along.value
 
   pub span_refusal : (span_c c k b).refusal ≡ first along.refusal upright.refusal
   unfolding span_c
-  span_refusal = simp (s.along k (omega arith), s.along (k + 1) (omega arith), s.upright k (omega arith), s.upright (k + 1) (omega arith))
+  span_refusal = refl
 
   pub span_value : (span_c c k b).value ≡ upright.value
   unfolding span_c
-  span_value = simp (s.along k (omega arith), s.along (k + 1) (omega arith), s.upright k (omega arith), s.upright (k + 1) (omega arith))
+  span_value = refl

@@ -6,26 +6,27 @@ use Rattle.vectors.specs.declared.Vec3.{Vec3}
 use Rattle.vectors.specs.Vectors.{plane, vec, ◌⊞◌, ◌⊠◌}
 use Rattle.boxes.specs.Boxes.{◌⧺◌}
 use Rattle.arcs.specs.Extremes as arcs
+use Rattle.developments.specs.declared.Development.{Development}
 use Rattle.developments.specs.Formulas.{point_c}
 use Rattle.piece_boxes.specs.declared.brackets.FlatBox.{FlatBox}
 use Rattle.piece_curves.specs.declared.PieceCurve.{PieceCurve}
 use Rattle.piece_boxes.specs.CurveBoxes.{box_c}
 
 -- the arc at v, from u0 to u1, `radius` from the axis
-unfoldable pub end_arc_c : Vec3 → Vec3 → Vec3 → Float → Float → Float → Float → Float → Checked (List Vec3)
-end_arc_c origin axis start neutral radius u0 u1 v = do
-  c ← vec origin ⊞ vec axis ⊠ num v
-  a ← point_c origin axis start neutral (plane u0 v) radius
-  b ← point_c origin axis start neutral (plane u1 v) radius
-  arcs.points_c c axis radius a b
+unfoldable pub end_arc_c : Development → Float → Float → Float → Float → Checked (List Vec3)
+end_arc_c dev radius u0 u1 v = do
+  c ← vec dev.origin ⊞ vec dev.axis ⊠ num v
+  a ← point_c dev.origin dev.axis dev.start dev.neutral (plane u0 v) radius
+  b ← point_c dev.origin dev.axis dev.start dev.neutral (plane u1 v) radius
+  arcs.points_c c dev.axis radius a b
 
 -- both arcs of a box in the development
-unfoldable pub end_arcs_c : Vec3 → Vec3 → Vec3 → Float → Float → FlatBox → Checked (List Vec3)
-end_arcs_c origin axis start neutral radius b = end_arc_c origin axis start neutral radius b.low.x b.high.x b.low.y ⧺ end_arc_c origin axis start neutral radius b.low.x b.high.x b.high.y
+unfoldable pub end_arcs_c : Development → Float → FlatBox → Checked (List Vec3)
+end_arcs_c dev radius b = end_arc_c dev radius b.low.x b.high.x b.low.y ⧺ end_arc_c dev radius b.low.x b.high.x b.high.y
 
 -- A piece lies in its box in the development, and that box rolled up is held by the two arcs about the axis at its ends
 -- along v.
-unfoldable pub points_c : Vec3 → Vec3 → Vec3 → Float → PieceCurve → Checked (List Vec3)
-points_c origin axis start radius r = do
+unfoldable pub points_c : Development → Float → PieceCurve → Checked (List Vec3)
+points_c dev radius r = do
   b ← box_c r
-  end_arcs_c origin axis start r.neutral radius b
+  end_arcs_c dev radius b

@@ -8,39 +8,40 @@ use crate::brackets::FlatBox;
 use crate::meet_boxes::meet_box;
 use checked::{Refusal, finite};
 use order::{greatest, least};
-use piece_curves::{CurveKind, PieceCurve};
+use piece_curves::{CurveKind, Ends, PieceCurve};
 use piece_lengths::measures::distance;
 use profile_arcs::ProfileArc;
 use vectors::Vec2;
 use waves::Wave;
 use waves::turning_points::range;
 
-fn ends(f: Vec2, g: Vec2) -> FlatBox
-    ensures { result ≡ ends f g }
+// Of the two ends.
+fn ends(e: Ends) -> FlatBox
+    ensures { result ≡ ends e.from e.to }
 {
     FlatBox {
         low: Vec2 {
-            x: least(f.x, g.x),
-            y: least(f.y, g.y),
+            x: least(e.from.x, e.to.x),
+            y: least(e.from.y, e.to.y),
         },
         high: Vec2 {
-            x: greatest(f.x, g.x),
-            y: greatest(f.y, g.y),
+            x: greatest(e.from.x, e.to.x),
+            y: greatest(e.from.y, e.to.y),
         },
     }
 }
 
 // The whole circle's box, with both ends.
-fn arc_box(a: ProfileArc, f: Vec2, g: Vec2) -> Result<FlatBox, Refusal>
-    ensures { told result ≡ answered (arc_c a f g) }
+fn arc_box(a: ProfileArc, e: Ends) -> Result<FlatBox, Refusal>
+    ensures { told result ≡ answered (arc_c a e.from e.to) }
 {
     let c = a.center;
-    let d = distance(c, f)?;
+    let d = distance(c, e.from)?;
     let u0 = finite(c.x - d)?;
     let u1 = finite(c.x + d)?;
     let v0 = finite(c.y - d)?;
     let v1 = finite(c.y + d)?;
-    let b = ends(f, g);
+    let b = ends(e);
     Ok(FlatBox {
         low: Vec2 {
             x: least(b.low.x, u0),
@@ -53,17 +54,17 @@ fn arc_box(a: ProfileArc, f: Vec2, g: Vec2) -> Result<FlatBox, Refusal>
     })
 }
 
-fn wave_box(w: Wave, f: Vec2, g: Vec2, n: f64) -> Result<FlatBox, Refusal>
-    ensures { told result ≡ answered (wave_c w f g n) }
+fn wave_box(w: Wave, e: Ends) -> Result<FlatBox, Refusal>
+    ensures { told result ≡ answered (wave_c w e.from e.to e.neutral) }
 {
-    let v = range(w.a, w.b, w.c, f.x, g.x, n)?;
+    let v = range(w, e.from.x, e.to.x, e.neutral)?;
     Ok(FlatBox {
         low: Vec2 {
-            x: least(f.x, g.x),
+            x: least(e.from.x, e.to.x),
             y: v.low,
         },
         high: Vec2 {
-            x: greatest(f.x, g.x),
+            x: greatest(e.from.x, e.to.x),
             y: v.high,
         },
     })
@@ -73,9 +74,9 @@ pub fn uv_box(r: PieceCurve) -> Result<FlatBox, Refusal>
     ensures { told result ≡ answered (box_c r) }
 {
     match r.way {
-        CurveKind::Straight => Ok(ends(r.from, r.to)),
-        CurveKind::Arc(a) => arc_box(a, r.from, r.to),
-        CurveKind::Wave(w) => wave_box(w, r.from, r.to, r.neutral),
+        CurveKind::Straight => Ok(ends(r.ends)),
+        CurveKind::Arc(a) => arc_box(a, r.ends),
+        CurveKind::Wave(w) => wave_box(w, r.ends),
         CurveKind::Meet(c) => meet_box(c),
     }
 }

@@ -1,5 +1,5 @@
 // The box of a piece: in the development, and the points that widen a box in space.
-#![tactic(auto)]
+#![tactic(auto, unfolding(crate::specs::CurveBoxes::ends, crate::specs::Brackets::widened, crate::specs::Brackets::agree, crate::specs::MeetBoxes::is_end))]
 
 pub mod brackets;
 pub mod curve_boxes;

@@ -1,7 +1,6 @@
 // The box in its development of a piece that follows a meet: at its ends, or where it turns between
 // them.
-ghost use Rattle.std.specs.Prelude.{◌≡◌, ◌<◌, get_or, IfOk};
-ghost use Rattle.std.specs.Float.{nan};
+ghost use Rattle.std.specs.Prelude.{◌≡◌, IfOk};
 ghost use Rattle.checked.specs.Checked.{answered, due};
 ghost use Rattle.checked.specs.Answers.{and_then};
 ghost use Rattle.checked.specs.Loops.{fold_c};
@@ -17,8 +16,7 @@ use vectors::Vec2;
 // The derivatives at 65 places, and the box of the two ends.
 #[derive(Clone, Copy)]
 struct Samples {
-    u: [f64; 65],
-    v: [f64; 65],
+    slopes: [Vec2; 65],
     ends: FlatBox,
 }
 
@@ -54,40 +52,32 @@ fn end(c: MeetCurve, k: u16, b: FlatBox) -> Result<FlatBox, Refusal>
 
 fn sampled(c: MeetCurve) -> Result<Samples, Refusal>
     ensures ends { and_then (told result) (λ s. due s.ends) ≡ answered (start_c c) }
-    ensures stored { IfOk result (λ s. Stored c 65 s.u s.v) }
+    ensures stored { IfOk result (λ s. Stored c 65 s.slopes) }
 {
     let far = 1.0 / 0.0;
     let mut ends = FlatBox {
         low: Vec2 { x: far, y: far },
         high: Vec2 { x: -far, y: -far },
     };
-    let mut u: [f64; 65] = [0.0; 65];
-    let mut v: [f64; 65] = [0.0; 65];
+    let mut slopes = [Vec2 { x: 0.0, y: 0.0 }; 65];
     for k in 0..65 {
-        let d = sample(c, k)?;
-        u[k as usize] = d.x;
-        v[k as usize] = d.y;
+        slopes[k as usize] = sample(c, k)?;
         ends = end(c, k, ends)?;
     }
-    Ok(Samples { u, v, ends })
-}
-
-fn at(row: &[f64; 65], k: u16) -> f64
-    requires { k < 65 }
-    ensures { result ≡ get_or row.now k nan }
-{
-    row[k as usize]
+    Ok(Samples { slopes, ends })
 }
 
 // The box with the turning points between all samples.
-fn spanned(c: MeetCurve, us: &[f64; 65], vs: &[f64; 65], start: FlatBox) -> Result<FlatBox, Refusal>
-    requires { Stored c 65 us.now vs.now }
+fn spanned(c: MeetCurve, slopes: &[Vec2; 65], start: FlatBox) -> Result<FlatBox, Refusal>
+    requires { Stored c 65 slopes.now }
     ensures { told result ≡ answered (fold_c 64 (span_c c) start) }
 {
     let mut b = start;
     for k in 0..64 {
-        b = bracketed(c, false, k, at(us, k), at(us, k + 1), b)?;
-        b = bracketed(c, true, k, at(vs, k), at(vs, k + 1), b)?;
+        let d = slopes[k as usize];
+        let e = slopes[k as usize + 1];
+        b = bracketed(c, false, k, d.x, e.x, b)?;
+        b = bracketed(c, true, k, d.y, e.y, b)?;
     }
     Ok(b)
 }
@@ -97,5 +87,5 @@ pub fn meet_box(c: MeetCurve) -> Result<FlatBox, Refusal>
     ensures { told result ≡ answered (box_c c) }
 {
     let s = sampled(c)?;
-    spanned(c, &s.u, &s.v, s.ends)
+    spanned(c, &s.slopes, s.ends)
 }

@@ -1,5 +1,5 @@
 -- `Rolled::meet_at`: a piece that follows a meet, cut by what its callers read.
-use Rattle.std.specs.Prelude.{Float}
+use Rattle.std.specs.Prelude.{Float, Some, None, Option}
 use Rattle.std.specs.Float.{binary64}
 use Rattle.std.specs.Float.Ieee.{add, sub, mul}
 use Rattle.checked.specs.Checked.{Checked, ◌>>=◌, given, finite, num, ◌⊕◌, ◌⊖◌, ◌⊗◌, ◌⊘◌}
@@ -9,33 +9,34 @@ use Rattle.rounding.specs.Whole.{round_away}
 use Rattle.vectors.specs.declared.Vec2.{Vec2}
 use Rattle.vectors.specs.declared.Vec3.{Vec3}
 use Rattle.vectors.specs.Vectors.{plane, nines}
-use Rattle.meets.specs.declared.quadratic.Pipe.{Pipe}
 use Rattle.meets.specs.declared.quadratic.Intersection.{Intersection}
+use Rattle.meets.specs.Meets.{pipe_c}
 use Rattle.meets.specs.Quadratic.{intersection_c}
 use Rattle.meets.specs.Generatrix as reaches
-use Rattle.meets.specs.declared.Turn.{Turn}
-use Rattle.meets.specs.declared.Turn.TheVariants as turn
+use Rattle.meets.specs.declared.Angles.{Angles}
 use Rattle.meets.specs.declared.Meet.{Meet}
 use Rattle.piece_curves.specs.declared.meet_curves.MeetCurve.{MeetCurve}
 use Rattle.piece_curves.specs.declared.meet_curves.Place.{Place}
 
--- the course along a meet whose pipe is worked out
-abbrev pub meet_curve_of : Vec2 → Vec2 → Float → Meet → Pipe → MeetCurve
-meet_curve_of from to n m pipe = record { from = from.x; to = to.x; neutral = n; turn = m.turn; pipe = pipe }
+-- the course along a meet from one end to the other, its pipe worked out
+unfoldable pub meet_curve_c : Vec2 → Vec2 → Float → Meet → Checked MeetCurve
+meet_curve_c from to n m = do
+  p ← pipe_c m n
+  given (record { from = from.x; to = to.x; neutral = n; turn = m.turn; pipe = p })
 
 -- how fast the angle runs
-abbrev pub rate_by : Turn → MeetCurve → Checked Float
-rate_by turn.Without c = (num c.to ⊖ num c.from) ⊘ num c.neutral
-rate_by (turn.Angles f g) c = num g ⊖ num f
+abbrev pub rate_by : Option Angles → MeetCurve → Checked Float
+rate_by None c = (num c.to ⊖ num c.from) ⊘ num c.neutral
+rate_by (Some a) c = num a.to ⊖ num a.from
 
 -- how fast the angle of a course runs
 unfoldable pub rate_c : MeetCurve → Checked Float
 rate_c c = rate_by c.turn c
 
 -- the angle at t
-abbrev pub angle_by : Turn → MeetCurve → Float → Checked Float
-angle_by turn.Without c t = (num c.from ⊕ (num c.to ⊖ num c.from) ⊗ num t) ⊘ num c.neutral
-angle_by (turn.Angles f g) c t = num f ⊗ (num one ⊖ num t) ⊕ num g ⊗ num t
+abbrev pub angle_by : Option Angles → MeetCurve → Float → Checked Float
+angle_by None c t = (num c.from ⊕ (num c.to ⊖ num c.from) ⊗ num t) ⊘ num c.neutral
+angle_by (Some a) c t = num a.from ⊗ (num one ⊖ num t) ⊕ num a.to ⊗ num t
 
 -- the angle of a course at t
 unfoldable pub angle_c : MeetCurve → Float → Checked Float
@@ -83,9 +84,9 @@ around_c c t = do
   num c.neutral ⊗ num th ⊗ num k
 
 -- of u
-abbrev pub slope_u_by : Turn → MeetCurve → Float → Checked Float
-slope_u_by turn.Without c t = num c.to ⊖ num c.from
-slope_u_by (turn.Angles f g) c t = around_c c t
+abbrev pub slope_u_by : Option Angles → MeetCurve → Float → Checked Float
+slope_u_by None c t = num c.to ⊖ num c.from
+slope_u_by (Some a) c t = around_c c t
 
 -- of u along any course
 unfoldable pub slope_u_c : MeetCurve → Float → Checked Float
@@ -116,20 +117,20 @@ hole_point_c c t = do
   given (plane u q.z)
 
 -- where `turn` is known
-abbrev pub point_by : Turn → MeetCurve → Float → Checked Vec2
-point_by turn.Without c t = own_point_c c t
-point_by (turn.Angles f g) c t = hole_point_c c t
+abbrev pub point_by : Option Angles → MeetCurve → Float → Checked Vec2
+point_by None c t = own_point_c c t
+point_by (Some a) c t = hole_point_c c t
 
 -- of any course
 unfoldable pub point_c : MeetCurve → Float → Checked Vec2
 point_c c t = point_by c.turn c t
 
 -- the same by where the generatrix at t ends: its refusals but for the end's own numbers were met before
-abbrev pub placed_by : Turn → MeetCurve → Float → Vec3 → Checked Vec2
-placed_by turn.Without c t q = do
+abbrev pub placed_by : Option Angles → MeetCurve → Float → Vec3 → Checked Vec2
+placed_by None c t q = do
   z ← finite q.z
   given (plane (add binary64 c.from (mul binary64 (sub binary64 c.to c.from) t)) z)
-placed_by (turn.Angles f g) c t q = do
+placed_by (Some a) c t q = do
   _ ← record { refusal = nines q; value = q }
   u ← near_c c q
   given (plane u q.z)

@@ -1,5 +1,5 @@
 -- Which notes suffice along a piece that follows a meet. Assumes nothing.
-use Rattle.std.specs.Prelude.{◌≡◌, refl, Float}
+use Rattle.std.specs.Prelude.{◌≡◌, refl, Float, Some, None, Option}
 use Rattle.std.proofs.Common.{sym, ap, subst}
 use Rattle.std.specs.Float.{binary64}
 use Rattle.std.specs.Float.Ieee.{add, mul}
@@ -14,8 +14,7 @@ use Rattle.meets.specs.Quadratic.{intersection_c}
 use Rattle.meets.specs.declared.generatrix.FirstDerivatives.{FirstDerivatives}
 use Rattle.meets.specs.Generatrix as reaches
 use Rattle.meets.specs.GeneratrixLaws.{rules as reaches_rules}
-use Rattle.meets.specs.declared.Turn.{Turn}
-use Rattle.meets.specs.declared.Turn.TheVariants as turn
+use Rattle.meets.specs.declared.Angles.{Angles}
 use Rattle.piece_curves.specs.declared.meet_curves.MeetCurve.{MeetCurve}
 use Rattle.piece_curves.specs.MeetCurves.{rate_by, rate_c, angle_by, angle_c, intersection_at_c, spot_c, slope_v_c, around_c, near_c, own_point_c, hole_point_c, point_by, point_c, placed_by, placed_c}
 
@@ -25,17 +24,17 @@ pub rate_nine : (c : MeetCurve) → (rate_c c).refusal ≡ nine (rate_c c).value
 unfolding rate_c
 rate_nine c = by c.turn
   where
-    by : (t : Turn) → (rate_by t c).refusal ≡ nine (rate_by t c).value
-    by turn.Without = simp all
-    by (turn.Angles f g) = simp all
+    by : (t : Option Angles) → (rate_by t c).refusal ≡ nine (rate_by t c).value
+    by None = simp all
+    by (Some a) = simp all
 
 pub angle_nine : (c : MeetCurve) (t : Float) → (angle_c c t).refusal ≡ nine (angle_c c t).value
 unfolding angle_c
 angle_nine c t = by c.turn
   where
-    by : (k : Turn) → (angle_by k c t).refusal ≡ nine (angle_by k c t).value
-    by turn.Without = simp all
-    by (turn.Angles f g) = simp all
+    by : (k : Option Angles) → (angle_by k c t).refusal ≡ nine (angle_by k c t).value
+    by None = simp all
+    by (Some a) = simp all
 
 -- the angle, the generatrix there, and the derivatives along it
 abbrev pub reached : MeetCurve → Float → Intersection
@@ -85,11 +84,11 @@ near_nine c q = simp (atan2_c, all)
 -- ---- the point by where its generatrix ends
 -- without `turn` the angle is u over the neutral radius
 abbrev own_angle_c : MeetCurve → Float → Checked Float
-own_angle_c c t = angle_by turn.Without c t
+own_angle_c c t = angle_by None c t
 
-own_angle : (c : MeetCurve) (t : Float) → c.turn ≡ turn.Without → angle_c c t ≡ own_angle_c c t
+own_angle : (c : MeetCurve) (t : Float) → c.turn ≡ None → angle_c c t ≡ own_angle_c c t
 unfolding angle_c
-own_angle c t e = ap (λ (k : Turn). angle_by k c t) e
+own_angle c t e = ap (λ (k : Option Angles). angle_by k c t) e
 
 abbrev reached_from : MeetCurve → Checked Float → Checked Intersection
 reached_from c angle = do
@@ -105,28 +104,28 @@ own_refusal : (c : MeetCurve) (t : Float) → (own_point_c c t).refusal ≡ firs
 unfolding own_point_c reaches.height_c reaches.point_c reaches.along_generatrix_c plus_c times_c
 own_refusal c t = simp all
 
-own_value : (c : MeetCurve) (t : Float) → (own_point_c c t).value ≡ (placed_by turn.Without c t (spot_from c (own_angle_c c t)).value).value
+own_value : (c : MeetCurve) (t : Float) → (own_point_c c t).value ≡ (placed_by None c t (spot_from c (own_angle_c c t)).value).value
 unfolding own_point_c reaches.height_c reaches.point_c reaches.along_generatrix_c plus_c times_c
 own_value c t = refl
 
-hole_refusal : (c : MeetCurve) (t f g : Float) → (hole_point_c c t).refusal ≡ first (intersection_at_c c t).refusal (placed_by (turn.Angles f g) c t (spot_c c t).value).refusal
+hole_refusal : (c : MeetCurve) (t : Float) (a : Angles) → (hole_point_c c t).refusal ≡ first (intersection_at_c c t).refusal (placed_by (Some a) c t (spot_c c t).value).refusal
 unfolding hole_point_c intersection_at_c spot_c reaches.point_c
-hole_refusal c t f g = simp (reaches_rules, all)
+hole_refusal c t a = simp (reaches_rules, all)
 
 pub point_refusal : (c : MeetCurve) (t : Float) → (point_c c t).refusal ≡ first (intersection_at_c c t).refusal (placed_c c t (spot_c c t).value).refusal
 unfolding point_c placed_c intersection_at_c spot_c
 point_refusal c t = by c.turn refl
   where
-    by : (k : Turn) → c.turn ≡ k → (point_by k c t).refusal ≡ first (intersection_at_c c t).refusal (placed_by k c t (spot_c c t).value).refusal
-    by turn.Without e = subst (λ (a : Checked Float). (own_point_c c t).refusal ≡ first (reached_from c a).refusal (placed_by turn.Without c t (spot_from c a).value).refusal) (sym (own_angle c t e)) (simp first_zero (own_refusal c t))
-    by (turn.Angles f g) e = hole_refusal c t f g
+    by : (k : Option Angles) → c.turn ≡ k → (point_by k c t).refusal ≡ first (intersection_at_c c t).refusal (placed_by k c t (spot_c c t).value).refusal
+    by None e = subst (λ (a : Checked Float). (own_point_c c t).refusal ≡ first (reached_from c a).refusal (placed_by None c t (spot_from c a).value).refusal) (sym (own_angle c t e)) (simp first_zero (own_refusal c t))
+    by (Some a) e = hole_refusal c t a
 
 pub point_value : (c : MeetCurve) (t : Float) → (point_c c t).value ≡ (placed_c c t (spot_c c t).value).value
 unfolding point_c placed_c hole_point_c spot_c
 point_value c t = by c.turn refl
   where
-    by : (k : Turn) → c.turn ≡ k → (point_by k c t).value ≡ (placed_by k c t (spot_c c t).value).value
-    by turn.Without e = subst (λ (a : Checked Float). (own_point_c c t).value ≡ (placed_by turn.Without c t (spot_from c a).value).value) (sym (own_angle c t e)) (own_value c t)
-    by (turn.Angles f g) e = refl
+    by : (k : Option Angles) → c.turn ≡ k → (point_by k c t).value ≡ (placed_by k c t (spot_c c t).value).value
+    by None e = subst (λ (a : Checked Float). (own_point_c c t).value ≡ (placed_by None c t (spot_from c a).value).value) (sym (own_angle c t e)) (own_value c t)
+    by (Some a) e = refl
 
 pub ruleset rules = (rate_nine, angle_nine, near_nine)

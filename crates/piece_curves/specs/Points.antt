@@ -66,9 +66,9 @@ wave_c w from to n t = do
 
 -- the point at t and its derivative, where the way is known
 abbrev pub at_by : CurveKind → PieceCurve → Float → Checked Place
-at_by way.Straight r t = straight_c r.from r.to t
-at_by (way.Arc a) r t = arc_c a r.from r.to t
-at_by (way.Wave w) r t = wave_c w r.from r.to r.neutral t
+at_by way.Straight r t = straight_c r.ends.from r.ends.to t
+at_by (way.Arc a) r t = arc_c a r.ends.from r.ends.to t
+at_by (way.Wave w) r t = wave_c w r.ends.from r.ends.to r.ends.neutral t
 at_by (way.Meet c) r t = courses.at_c c t
 
 -- the point at t and its derivative

@@ -34,9 +34,9 @@ wave_c w from to n t = do
 
 -- in the development, where the way is known
 abbrev pub flat_by : CurveKind → PieceCurve → Float → Checked Vec2
-flat_by way.Straight r t = straight_c r.from r.to t
-flat_by (way.Arc a) r t = arc_point_c a r.from r.to t
-flat_by (way.Wave w) r t = wave_c w r.from r.to r.neutral t
+flat_by way.Straight r t = straight_c r.ends.from r.ends.to t
+flat_by (way.Arc a) r t = arc_point_c a r.ends.from r.ends.to t
+flat_by (way.Wave w) r t = wave_c w r.ends.from r.ends.to r.ends.neutral t
 flat_by (way.Meet c) r t = point_c c t
 
 -- in the development
@@ -47,4 +47,4 @@ flat_c r t = flat_by r.way r t
 unfoldable pub rolled_c : Rolling → Float → Checked Vec3
 rolled_c g t = do
   p ← flat_c g.run t
-  rolls.point_c g.origin g.axis g.start g.run.neutral p g.radius
+  rolls.point_c g.dev.origin g.dev.axis g.dev.start g.dev.neutral p g.radius

@@ -5,12 +5,10 @@
 ghost use Rattle.std.specs.Prelude.{◌≡◌};
 ghost use Rattle.checked.specs.Checked.{answered};
 ghost use Rattle.checked.specs.Told.{told};
-ghost use Rattle.piece_curves.specs.PieceCurves.{meet_kind_c, traced_c, untraced, kind_c, curve_c};
+ghost use Rattle.piece_curves.specs.PieceCurves.{kind_c, curve_c};
 
-use crate::meet_curves::MeetCurve;
+use crate::meet_curves::{MeetCurve, meet_curve};
 use checked::Refusal;
-use meets::Meet;
-use meets::formula::pipe;
 use profile_arcs::ProfileArc;
 use traces::Trace;
 use vectors::Vec2;
@@ -28,76 +26,41 @@ pub enum CurveKind {
     Meet(MeetCurve),
 }
 
-// A piece in its development: its ends, the neutral radius, and what it follows between them.
+// Where a piece of a development begins and ends, and the neutral radius.
 #[derive(Clone, Copy)]
-pub struct PieceCurve {
+pub struct Ends {
     pub from: Vec2,
     pub to: Vec2,
     pub neutral: f64,
+}
+
+// A piece in its development: its ends, and what it follows between them.
+#[derive(Clone, Copy)]
+pub struct PieceCurve {
+    pub ends: Ends,
     pub way: CurveKind,
 }
 
-fn meet_way(from: Vec2, to: Vec2, neutral: f64, m: Meet) -> Result<CurveKind, Refusal>
-    ensures { told result ≡ answered (meet_kind_c from to neutral m) }
+// Along a trace where there is one, else along an arc, else straight on.
+fn way_of(ends: Ends, arc: Option<ProfileArc>, trace: Option<Trace>) -> Result<CurveKind, Refusal>
+    ensures { told result ≡ answered (kind_c ends.from ends.to ends.neutral arc trace) }
 {
-    let pipe = pipe(m, neutral)?;
-    Ok(CurveKind::Meet(MeetCurve {
-        from: from.x,
-        to: to.x,
-        neutral,
-        turn: m.turn,
-        pipe,
-    }))
-}
-
-fn traced(from: Vec2, to: Vec2, neutral: f64, t: Trace) -> Result<CurveKind, Refusal>
-    ensures { told result ≡ answered (traced_c from to neutral t) }
-{
-    match t {
-        Trace::Wave(w) => Ok(CurveKind::Wave(w)),
-        Trace::Meet(m) => meet_way(from, to, neutral, m),
-    }
-}
-
-fn untraced(arc: Option<ProfileArc>) -> CurveKind
-    ensures { result ≡ untraced arc }
-{
-    match arc {
-        None => CurveKind::Straight,
-        Some(a) => CurveKind::Arc(a),
-    }
-}
-
-fn way_of(
-    from: Vec2,
-    to: Vec2,
-    neutral: f64,
-    arc: Option<ProfileArc>,
-    trace: Option<Trace>,
-) -> Result<CurveKind, Refusal>
-    ensures { told result ≡ answered (kind_c from to neutral arc trace) }
-{
-    match trace {
-        None => Ok(untraced(arc)),
-        Some(t) => traced(from, to, neutral, t),
+    match (trace, arc) {
+        (Some(Trace::Wave(w)), _) => Ok(CurveKind::Wave(w)),
+        (Some(Trace::Meet(m)), _) => Ok(CurveKind::Meet(meet_curve(m, ends)?)),
+        (None, Some(a)) => Ok(CurveKind::Arc(a)),
+        (None, None) => Ok(CurveKind::Straight),
     }
 }
 
 // The piece of these ends, arc and trace.
 pub fn curve_of(
-    from: Vec2,
-    to: Vec2,
-    neutral: f64,
+    ends: Ends,
     arc: Option<ProfileArc>,
     trace: Option<Trace>,
 ) -> Result<PieceCurve, Refusal>
-    ensures { told result ≡ answered (curve_c from to neutral arc trace) }
+    ensures { told result ≡ answered (curve_c ends.from ends.to ends.neutral arc trace) }
 {
-    let way = way_of(from, to, neutral, arc, trace)?;
-    Ok(PieceCurve {
-        from,
-        to,
-        neutral,
-        way,
-    })
+    let way = way_of(ends, arc, trace)?;
+    Ok(PieceCurve { ends, way })
 }

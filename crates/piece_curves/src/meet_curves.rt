@@ -3,13 +3,15 @@
 ghost use Rattle.std.specs.Prelude.{◌≡◌};
 ghost use Rattle.checked.specs.Checked.{answered};
 ghost use Rattle.checked.specs.Told.{told};
-ghost use Rattle.piece_curves.specs.MeetCurves.{rate_c, angle_c, slope_v_c, around_c, slope_u_c, ended_c, near_c, point_c, placed_c, at_c};
+ghost use Rattle.piece_curves.specs.MeetCurves.{meet_curve_c, rate_c, angle_c, slope_v_c, around_c, slope_u_c, ended_c, near_c, point_c, placed_c, at_c};
 
+use crate::Ends;
 use checked::{Refusal, TAU, finite};
 use libm::atan2::atan2;
-use meets::Turn;
+use meets::formula::pipe;
 use meets::generatrix::speed_at;
 use meets::quadratic::{Pipe, intersect};
+use meets::{Angles, Meet};
 use rounding::round;
 use vectors::formula::{finite3, plus, times};
 use vectors::{Vec2, Vec3};
@@ -21,7 +23,7 @@ pub struct MeetCurve {
     pub from: f64,
     pub to: f64,
     pub neutral: f64,
-    pub turn: Turn,
+    pub turn: Option<Angles>,
     pub pipe: Pipe,
 }
 
@@ -41,13 +43,27 @@ pub struct Place {
     pub d: Vec2,
 }
 
+// The course along a meet from one end to the other, its pipe worked out.
+pub fn meet_curve(m: Meet, ends: Ends) -> Result<MeetCurve, Refusal>
+    ensures { told result ≡ answered (meet_curve_c ends.from ends.to ends.neutral m) }
+{
+    let pipe = pipe(m, ends.neutral)?;
+    Ok(MeetCurve {
+        from: ends.from.x,
+        to: ends.to.x,
+        neutral: ends.neutral,
+        turn: m.turn,
+        pipe,
+    })
+}
+
 // How fast the angle runs.
 pub fn rate(c: MeetCurve) -> f64
     ensures { result ≡ (rate_c c).value }
 {
     match c.turn {
-        Turn::Without => (c.to - c.from) / c.neutral,
-        Turn::Angles(f, g) => g - f,
+        None => (c.to - c.from) / c.neutral,
+        Some(a) => a.to - a.from,
     }
 }
 
@@ -56,8 +72,8 @@ pub fn angle(c: MeetCurve, t: f64) -> f64
     ensures { result ≡ (angle_c c t).value }
 {
     match c.turn {
-        Turn::Without => (c.from + (c.to - c.from) * t) / c.neutral,
-        Turn::Angles(f, g) => f * (1.0 - t) + g * t,
+        None => (c.from + (c.to - c.from) * t) / c.neutral,
+        Some(a) => a.from * (1.0 - t) + a.to * t,
     }
 }
 
@@ -113,12 +129,12 @@ pub fn motion(c: MeetCurve, t: f64) -> MeetRates
 {
     let m = moved(c, t);
     match c.turn {
-        Turn::Without => MeetRates {
+        None => MeetRates {
             u: finite(c.to - c.from),
             v: m.v,
             q: m.q,
         },
-        Turn::Angles(_, _) => m,
+        Some(_) => m,
     }
 }
 
@@ -136,14 +152,14 @@ pub fn placed(c: MeetCurve, t: f64, q: Vec3) -> Result<Vec2, Refusal>
     ensures { told result ≡ answered (placed_c c t q) }
 {
     match c.turn {
-        Turn::Without => {
+        None => {
             let z = finite(q.z)?;
             Ok(Vec2 {
                 x: c.from + (c.to - c.from) * t,
                 y: z,
             })
         }
-        Turn::Angles(_, _) => {
+        Some(_) => {
             finite3(q)?;
             let u = finite(near(c, q))?;
             Ok(Vec2 { x: u, y: q.z })

@@ -25,7 +25,7 @@ use Rattle.piece_lengths.specs.Measures.{measure_c}
 unfoldable pub quadrature_c : PieceCurve → Checked ℕ
 quadrature_c r = do
   m ← measure_c r
-  bend ← num m.length ⊘ num r.neutral
+  bend ← num m.length ⊘ num r.ends.neutral
   x ← num (greatest m.turn bend) ⊘ num quarter_pi
   count_c x one MOST
 
@@ -47,7 +47,7 @@ unfoldable pub chords_c : PieceCurve → Float → Float → Checked ℕ
 chords_c r radius chord = do
   m ← measure_c r
   own ← num m.turn ⊘ num tau ⊗ own_turn_c r.way m.radius chord
-  bend ← num m.length ⊘ num r.neutral ⊘ num tau ⊗ per_turn_c radius chord
+  bend ← num m.length ⊘ num r.ends.neutral ⊘ num tau ⊗ per_turn_c radius chord
   count_c (greatest own bend) one MOST
 
 -- ---- chords of a polyline through the piece in its development, each at most `deviation` off it
@@ -106,7 +106,7 @@ meet_line_c c deviation = do
 abbrev pub line_by : CurveKind → PieceCurve → Float → Checked ℕ
 line_by way.Straight r deviation = given 1
 line_by (way.Arc a) r deviation = given 1
-line_by (way.Wave w) r deviation = wave_line_c w r.from r.to r.neutral deviation
+line_by (way.Wave w) r deviation = wave_line_c w r.ends.from r.ends.to r.ends.neutral deviation
 line_by (way.Meet c) r deviation = meet_line_c c deviation
 
 -- `Rolled::polyline`

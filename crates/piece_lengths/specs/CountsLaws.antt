@@ -32,7 +32,7 @@ pub chords_refusal : (r : PieceCurve) (radius chord : Float) →
     let m = measure_c r in
     let x = div binary64 m.value.turn tau in
     let p = own_turn_c r.way m.value.radius chord in
-    let y = div binary64 (div binary64 m.value.length r.neutral) tau in
+    let y = div binary64 (div binary64 m.value.length r.ends.neutral) tau in
     let q = per_turn_c radius chord in
     let own = mul binary64 x p.value in
     let bend = mul binary64 y q.value in

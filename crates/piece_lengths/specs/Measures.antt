@@ -102,8 +102,8 @@ arc_c a from to = do
 
 -- the measure, where the way is known
 abbrev pub measure_by : CurveKind → PieceCurve → Checked Measure
-measure_by way.Straight r = segment_c r.from r.to
-measure_by (way.Arc a) r = arc_c a r.from r.to
+measure_by way.Straight r = segment_c r.ends.from r.ends.to
+measure_by (way.Arc a) r = arc_c a r.ends.from r.ends.to
 measure_by (way.Wave w) r = traced_c r
 measure_by (way.Meet c) r = traced_c r
 

@@ -41,8 +41,8 @@ unfolding further_c
 further_refusal s u v = simp checked_rules
 
 -- a run whose way is known
-pub way_known : (r : PieceCurve) (w : CurveKind) → r.way ≡ w → curve_by r.from r.to r.neutral w ≡ r
-way_known r w e = subst (λ (v : CurveKind). curve_by r.from r.to r.neutral v ≡ r) e refl
+pub way_known : (r : PieceCurve) (w : CurveKind) → r.way ≡ w → curve_by r.ends.from r.ends.to r.ends.neutral w ≡ r
+way_known r w e = subst (λ (v : CurveKind). curve_by r.ends.from r.ends.to r.ends.neutral v ≡ r) e refl
 
 meet_traced : (from to : Vec2) (n : Float) (c : MeetCurve) → traced_c (followed c) ≡ traced_c (curve_by from to n (way.Meet c))
 unfolding traced_c places_c length_c turned_c place_c at_c
@@ -50,9 +50,9 @@ meet_traced from to n c = refl
 
 pub meet_known : (r : PieceCurve) (c : MeetCurve) → r.way ≡ way.Meet c → traced_c (followed c) ≡ measure_c r
 unfolding measure_c
-meet_known r c e = meet_traced r.from r.to r.neutral c ∙ (ap traced_c (way_known r (way.Meet c) e) ∙ sym (ap (λ (w : CurveKind). measure_by w r) e))
+meet_known r c e = meet_traced r.ends.from r.ends.to r.ends.neutral c ∙ (ap traced_c (way_known r (way.Meet c) e) ∙ sym (ap (λ (w : CurveKind). measure_by w r) e))
 
-pub wave_known : (r : PieceCurve) (w : Wave) → r.way ≡ way.Wave w → traced_c (wave_run r.from r.to r.neutral w) ≡ measure_c r
+pub wave_known : (r : PieceCurve) (w : Wave) → r.way ≡ way.Wave w → traced_c (wave_run r.ends.from r.ends.to r.ends.neutral w) ≡ measure_c r
 unfolding measure_c
 wave_known r w e = ap traced_c (way_known r (way.Wave w) e) ∙ sym (ap (λ (v : CurveKind). measure_by v r) e)
 

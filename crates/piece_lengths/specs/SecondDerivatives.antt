@@ -1,6 +1,6 @@
 -- `Rolled::second`: the second derivative in t of a piece. What is not read of a meet is not in it:
 -- without `turn` the height alone is, with it neither the height nor its first derivative.
-use Rattle.std.specs.Prelude.{Float}
+use Rattle.std.specs.Prelude.{Float, Some, None, Option}
 use Rattle.checked.specs.Checked.{Checked, ◌>>=◌, given, num, minus, ◌⊕◌, ◌⊖◌, ◌⊗◌, ◌⊘◌}
 use Rattle.checked.specs.Numbers.{zero, two}
 use Rattle.vectors.specs.declared.Vec2.{Vec2}
@@ -9,8 +9,7 @@ use Rattle.vectors.specs.Vectors.{plane}
 use Rattle.meets.specs.declared.quadratic.Pipe.{Pipe}
 use Rattle.meets.specs.Quadratic.{intersection_c}
 use Rattle.meets.specs.Generatrix as reaches
-use Rattle.meets.specs.declared.Turn.{Turn}
-use Rattle.meets.specs.declared.Turn.TheVariants as turn
+use Rattle.meets.specs.declared.Angles.{Angles}
 use Rattle.profile_arcs.specs.declared.ProfileArc.{ProfileArc}
 use Rattle.profile_arcs.specs.Profiles.{turn_c}
 use Rattle.waves.specs.declared.Wave.{Wave}
@@ -87,11 +86,11 @@ bend_u_c c t = do
   num c.neutral ⊗ num th ⊗ num k ⊗ num k
 
 -- of both, where `turn` is known
-abbrev pub meet_by : Turn → MeetCurve → Float → Checked Vec2
-meet_by turn.Without c t = do
+abbrev pub meet_by : Option Angles → MeetCurve → Float → Checked Vec2
+meet_by None c t = do
   y ← bend_v_c c t
   given (plane zero y)
-meet_by (turn.Angles f g) c t = do
+meet_by (Some a) c t = do
   x ← bend_u_c c t
   y ← bend_v_c c t
   given (plane x y)
@@ -121,8 +120,8 @@ arc_c a from to t = do
 -- `Rolled::second`, where the way is known
 abbrev pub second_by : CurveKind → PieceCurve → Float → Checked Vec2
 second_by way.Straight r t = given (plane zero zero)
-second_by (way.Arc a) r t = arc_c a r.from r.to t
-second_by (way.Wave w) r t = wave_c w r.from r.to r.neutral t
+second_by (way.Arc a) r t = arc_c a r.ends.from r.ends.to t
+second_by (way.Wave w) r t = wave_c w r.ends.from r.ends.to r.ends.neutral t
 second_by (way.Meet c) r t = meet_c c t
 
 -- `Rolled::second`: the second derivative in t

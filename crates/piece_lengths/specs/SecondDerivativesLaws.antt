@@ -1,5 +1,5 @@
 -- Which notes suffice of a second derivative. Assumes nothing.
-use Rattle.std.specs.Prelude.{ℕ, zero, suc, ◌≡◌, refl, true, Float}
+use Rattle.std.specs.Prelude.{ℕ, zero, suc, ◌≡◌, refl, true, Float, Some, None, Option}
 use Rattle.std.proofs.Common.{◌∙◌, ap}
 use Rattle.std.specs.Float.{binary64}
 use Rattle.std.specs.Float.Ieee.{add, sub, mul}
@@ -8,8 +8,7 @@ use Rattle.checked.specs.Laws.{swap, ends, tells, first_zero, absorbed, rules as
 use Rattle.checked.specs.Numbers.{two}
 use Rattle.vectors.specs.declared.Vec2.{Vec2}
 use Rattle.vectors.specs.declared.Vec3.{Vec3}
-use Rattle.meets.specs.declared.Turn.{Turn}
-use Rattle.meets.specs.declared.Turn.TheVariants as turn
+use Rattle.meets.specs.declared.Angles.{Angles}
 use Rattle.meets.specs.Quadratic.{intersection_c}
 use Rattle.meets.specs.Generatrix as reaches
 use Rattle.meets.specs.GeneratrixLaws.{speed_refusal, bend_refusal}
@@ -134,18 +133,18 @@ bend_u_refusal c t =
     (way_alone (fourth q) (spun q q1 q2 n k) q.x q.y q1.x q1.y q2.x q2.y (tells_qx q q1 q2 n k) (tells_qy q q1 q2 n k) (tells_q1x q q1 q2 n k) (tells_q1y q q1 q2 n k) (tells_q2x q q1 q2 n k) (tells_q2y q q1 q2 n k) _ _ _))
 
 -- along any meet: what is noted after the way
-abbrev pub rest : Turn → MeetCurve → Float → ℕ
-rest turn.Without c t = nine (bend_v_c c t).value
-rest (turn.Angles f g) c t = first (first (angle_by c t).refusal (nine (bend_u_c c t).value)) (nine (bend_v_c c t).value)
+abbrev pub rest : Option Angles → MeetCurve → Float → ℕ
+rest None c t = nine (bend_v_c c t).value
+rest (Some a) c t = first (first (angle_by c t).refusal (nine (bend_u_c c t).value)) (nine (bend_v_c c t).value)
 
 both : (r f g : ℕ) → first (first r f) (first r g) ≡ first r (first f g)
 unfolding first
 both zero f g = refl
 both (suc r) f g = refl
 
-meet_by_refusal : (k : Turn) (c : MeetCurve) (t : Float) → (meet_by k c t).refusal ≡ first (way c t) (rest k c t)
-meet_by_refusal turn.Without c t = simp first_zero (bend_v_refusal c t)
-meet_by_refusal (turn.Angles f g) c t = simp (first_zero, bend_u_refusal, bend_v_refusal) (both (way c t) _ _)
+meet_by_refusal : (k : Option Angles) (c : MeetCurve) (t : Float) → (meet_by k c t).refusal ≡ first (way c t) (rest k c t)
+meet_by_refusal None c t = simp first_zero (bend_v_refusal c t)
+meet_by_refusal (Some a) c t = simp (first_zero, bend_u_refusal, bend_v_refusal) (both (way c t) _ _)
 
 pub meet_refusal : (c : MeetCurve) (t : Float) → (meet_c c t).refusal ≡ first (way c t) (rest c.turn c t)
 unfolding meet_c

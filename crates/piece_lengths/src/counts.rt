@@ -13,9 +13,8 @@ use float_bits::fabs;
 use libm::roots::hypot;
 use order::greatest;
 use piece_curves::meet_curves::MeetCurve;
-use piece_curves::{CurveKind, PieceCurve};
+use piece_curves::{CurveKind, Ends, PieceCurve};
 use rounding::sqrt;
-use vectors::Vec2;
 use waves::Wave;
 
 // The most chords of a full turn.
@@ -26,7 +25,7 @@ pub fn quadrature_pieces(r: PieceCurve) -> Result<u16, Refusal>
     ensures { told result ≡ answered (quadrature_c r) }
 {
     let m = measure_of(r)?;
-    let bend = finite(m.length / r.neutral)?;
+    let bend = finite(m.length / r.ends.neutral)?;
     let x = finite(greatest(m.turn, bend) / FRAC_PI_4)?;
     count(x, 1.0, MOST)
 }
@@ -49,7 +48,7 @@ pub fn chords_of(r: PieceCurve, radius: f64, chord: f64) -> Result<u16, Refusal>
     let x = finite(m.turn / TAU)?;
     let p = own_turn(r.way, m.radius, chord)?;
     let own = finite(x * p)?;
-    let y = finite(m.length / r.neutral / TAU)?;
+    let y = finite(m.length / r.ends.neutral / TAU)?;
     let q = per_turn(radius, chord)?;
     let bend = finite(y * q)?;
     count(greatest(own, bend), 1.0, MOST)
@@ -73,13 +72,13 @@ fn off(length: f64, amp: f64, n: f64, deviation: f64) -> Result<f64, Refusal>
     finite(length * sqrt(y / e))
 }
 
-fn wave_line(w: Wave, from: Vec2, to: Vec2, n: f64, deviation: f64) -> Result<u16, Refusal>
-    ensures { told result ≡ answered (wave_line_c w from to n deviation) }
+fn wave_line(w: Wave, ends: Ends, deviation: f64) -> Result<u16, Refusal>
+    ensures { told result ≡ answered (wave_line_c w ends.from ends.to ends.neutral deviation) }
 {
-    let du = finite(to.x - from.x)?;
+    let du = finite(ends.to.x - ends.from.x)?;
     let amp = finite(hypot(w.b, w.c))?;
-    let length = finite(steep(du, amp, n))?;
-    let q = off(length, amp, n, deviation)?;
+    let length = finite(steep(du, amp, ends.neutral))?;
+    let q = off(length, amp, ends.neutral, deviation)?;
     count(q, 2.0, MOST)
 }
 
@@ -112,7 +111,7 @@ pub fn polyline_of(r: PieceCurve, deviation: f64) -> Result<u16, Refusal>
 {
     match r.way {
         CurveKind::Straight | CurveKind::Arc(_) => Ok(1),
-        CurveKind::Wave(w) => wave_line(w, r.from, r.to, r.neutral, deviation),
+        CurveKind::Wave(w) => wave_line(w, r.ends, deviation),
         CurveKind::Meet(c) => meet_line(c, deviation),
     }
 }

@@ -12,7 +12,7 @@ use libm::atan2::atan2;
 use libm::roots::hypot;
 use piece_curves::meet_curves::{MeetCurve, Place, motion, placed};
 use piece_curves::points::wave_at;
-use piece_curves::{CurveKind, PieceCurve};
+use piece_curves::{CurveKind, Ends, PieceCurve};
 use profile_arcs::ProfileArc;
 use vectors::Vec2;
 use waves::Wave;
@@ -35,14 +35,15 @@ pub fn distance(a: Vec2, b: Vec2) -> Result<f64, Refusal>
 }
 
 // The place after k of 32 chords along a wave.
-fn wave_place(w: Wave, from: Vec2, to: Vec2, n: f64, k: u16) -> Result<Place, Refusal>
-    ensures { told result ≡ answered (place_c (wave_run from to n w) k) }
+fn wave_place(w: Wave, ends: Ends, k: u16) -> Result<Place, Refusal>
+    ensures { told result ≡ answered (place_c (wave_run ends.from ends.to ends.neutral w) k) }
 {
     let t = finite((k as f64) / 32.0)?;
-    wave_at(w, from, to, n, t)
+    wave_at(w, ends, t)
 }
 
-// The place after k of 32 chords along a meet. `at` of `meet_curves` would copy the course once more.
+// The place after k of 32 chords along a meet: as `at` of `meet_curves`, over which, inlined or not, the measure of a
+// meet takes a tenth more time.
 fn meet_place(c: MeetCurve, k: u16) -> Result<Place, Refusal>
     ensures { told result ≡ answered (place_c (followed c) k) }
 {
@@ -101,10 +102,10 @@ fn traced<F: Fn(u16) -> Result<Place, Refusal>>(place: F) -> Result<Measure, Ref
     })
 }
 
-pub fn segment(from: Vec2, to: Vec2) -> Result<Measure, Refusal>
-    ensures { told result ≡ answered (segment_c from to) }
+pub fn segment(ends: Ends) -> Result<Measure, Refusal>
+    ensures { told result ≡ answered (segment_c ends.from ends.to) }
 {
-    let length = distance(from, to)?;
+    let length = distance(ends.from, ends.to)?;
     Ok(Measure {
         radius: 0.0,
         turn: 0.0,
@@ -112,11 +113,11 @@ pub fn segment(from: Vec2, to: Vec2) -> Result<Measure, Refusal>
     })
 }
 
-pub fn arc_measure(a: ProfileArc, from: Vec2, to: Vec2) -> Result<Measure, Refusal>
-    ensures { told result ≡ answered (arc_c a from to) }
+pub fn arc_measure(a: ProfileArc, ends: Ends) -> Result<Measure, Refusal>
+    ensures { told result ≡ answered (arc_c a ends.from ends.to) }
 {
-    let radius = distance(a.center, from)?;
-    let phi = profile_arcs::formula::turn(a, from, to)?;
+    let radius = distance(a.center, ends.from)?;
+    let phi = profile_arcs::formula::turn(a, ends.from, ends.to)?;
     let turn = fabs(phi);
     let length = finite(radius * turn)?;
     Ok(Measure {
@@ -130,9 +131,9 @@ pub fn measure_of(r: PieceCurve) -> Result<Measure, Refusal>
     ensures { told result ≡ answered (measure_c r) }
 {
     match r.way {
-        CurveKind::Straight => segment(r.from, r.to),
-        CurveKind::Arc(a) => arc_measure(a, r.from, r.to),
-        CurveKind::Wave(w) => traced(|k| wave_place(w, r.from, r.to, r.neutral, k)),
+        CurveKind::Straight => segment(r.ends),
+        CurveKind::Arc(a) => arc_measure(a, r.ends),
+        CurveKind::Wave(w) => traced(|k| wave_place(w, r.ends, k)),
         CurveKind::Meet(c) => traced(|k| meet_place(c, k)),
     }
 }

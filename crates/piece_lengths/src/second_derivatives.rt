@@ -5,12 +5,11 @@ ghost use Rattle.checked.specs.Told.{told};
 ghost use Rattle.piece_lengths.specs.SecondDerivatives.{level_c, angle_bend_c, meet_c, wave_c, arc_c, second_c};
 
 use checked::{Refusal, finite};
-use meets::Turn;
 use meets::generatrix::{bend_at, speed_at};
 use meets::quadratic::intersect;
 use piece_curves::meet_curves::{MeetCurve, angle, rate};
 use piece_curves::points::arc_point;
-use piece_curves::{CurveKind, PieceCurve};
+use piece_curves::{CurveKind, Ends, PieceCurve};
 use profile_arcs::ProfileArc;
 use vectors::{Vec2, Vec3};
 use waves::{Wave, values};
@@ -47,11 +46,11 @@ pub fn meet_second(c: MeetCurve, t: f64) -> Result<Vec2, Refusal>
     let e = bend_at(p, h, s)?;
     let v = (e.d2.z + p.a.z * e.t2) * k * k;
     match c.turn {
-        Turn::Without => {
+        None => {
             let y = finite(v)?;
             Ok(Vec2 { x: 0.0, y })
         }
-        Turn::Angles(_, _) => {
+        Some(_) => {
             // The angle's bend is finite only where these are.
             let q = level(h.p0, p.a, h.t);
             let q1 = level(s.d1, p.a, s.t1);
@@ -64,21 +63,21 @@ pub fn meet_second(c: MeetCurve, t: f64) -> Result<Vec2, Refusal>
     }
 }
 
-fn wave_second(w: Wave, from: Vec2, to: Vec2, n: f64, t: f64) -> Result<Vec2, Refusal>
-    ensures { told result ≡ answered (wave_c w from to n t) }
+fn wave_second(w: Wave, ends: Ends, t: f64) -> Result<Vec2, Refusal>
+    ensures { told result ≡ answered (wave_c w ends.from ends.to ends.neutral t) }
 {
-    let du = finite(to.x - from.x)?;
-    let u = finite(from.x + du * t)?;
-    let e = values::bend(w.b, w.c, u, n)?;
+    let du = finite(ends.to.x - ends.from.x)?;
+    let u = finite(ends.from.x + du * t)?;
+    let e = values::bend(w, u, ends.neutral)?;
     let y = finite(e * du * du)?;
     Ok(Vec2 { x: 0.0, y })
 }
 
-fn arc_second(a: ProfileArc, from: Vec2, to: Vec2, t: f64) -> Result<Vec2, Refusal>
-    ensures { told result ≡ answered (arc_c a from to t) }
+fn arc_second(a: ProfileArc, ends: Ends, t: f64) -> Result<Vec2, Refusal>
+    ensures { told result ≡ answered (arc_c a ends.from ends.to t) }
 {
-    let p = arc_point(a, from, to, t)?;
-    let turn = profile_arcs::formula::turn(a, from, to)?;
+    let p = arc_point(a, ends, t)?;
+    let turn = profile_arcs::formula::turn(a, ends.from, ends.to)?;
     let x = finite(-turn * turn * (p.x - a.center.x))?;
     let y = finite(-turn * turn * (p.y - a.center.y))?;
     Ok(Vec2 { x, y })
@@ -90,8 +89,8 @@ pub fn second(r: PieceCurve, t: f64) -> Result<Vec2, Refusal>
 {
     match r.way {
         CurveKind::Straight => Ok(Vec2 { x: 0.0, y: 0.0 }),
-        CurveKind::Arc(a) => arc_second(a, r.from, r.to, t),
-        CurveKind::Wave(w) => wave_second(w, r.from, r.to, r.neutral, t),
+        CurveKind::Arc(a) => arc_second(a, r.ends, t),
+        CurveKind::Wave(w) => wave_second(w, r.ends, t),
         CurveKind::Meet(c) => meet_second(c, t),
     }
 }

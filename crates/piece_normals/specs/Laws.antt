@@ -13,9 +13,8 @@ use Rattle.directions.specs.Directions.{unit_c}
 use Rattle.developments.specs.Formulas.{radial_at_c, along_c}
 use Rattle.developments.specs.Laws.{along_refusal}
 use Rattle.meets.specs.declared.Meet.{Meet}
-use Rattle.meets.specs.Meets.{pipe_c}
 use Rattle.piece_curves.specs.declared.meet_curves.MeetCurve.{MeetCurve}
-use Rattle.piece_curves.specs.MeetCurves.{meet_curve_of, slope_u_c, slope_v_c}
+use Rattle.piece_curves.specs.MeetCurves.{meet_curve_c, slope_u_c, slope_v_c}
 use Rattle.piece_curves.specs.MeetCurves as courses
 use Rattle.piece_normals.specs.Directions.{gradient_c, side_c}
 use Rattle.piece_normals.specs.Normals.{own_c, normal_c}
@@ -43,6 +42,6 @@ side_refusal origin axis own c = simp checked_rules
 abbrev pub part_of : Vec2 → Vec2 → Vec2 → Float
 part_of from to p = div binary64 (sub binary64 p.x from.x) (sub binary64 to.x from.x)
 
-pub own_refusal : (m : Meet) (from to : Vec2) (n : Float) (p : Vec2) → (own_c m from to n p).refusal ≡ first (nine (sub binary64 to.x from.x)) (first (nine (part_of from to p)) (first (pipe_c m n).refusal (first (slope_u_c (meet_curve_of from to n m (pipe_c m n).value) (part_of from to p)).refusal (slope_v_c (meet_curve_of from to n m (pipe_c m n).value) (part_of from to p)).refusal)))
+pub own_refusal : (m : Meet) (from to : Vec2) (n : Float) (p : Vec2) → (own_c m from to n p).refusal ≡ first (nine (sub binary64 to.x from.x)) (first (nine (part_of from to p)) (first (meet_curve_c from to n m).refusal (first (slope_u_c (meet_curve_c from to n m).value (part_of from to p)).refusal (slope_v_c (meet_curve_c from to n m).value (part_of from to p)).refusal)))
 unfolding own_c
 own_refusal m from to n p = simp checked_rules

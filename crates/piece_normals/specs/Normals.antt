@@ -8,13 +8,11 @@ use Rattle.vectors.specs.Vectors.{plane, vec, ◌⨯◌}
 use Rattle.profile_arcs.specs.declared.ProfileArc.{ProfileArc}
 use Rattle.waves.specs.declared.Wave.{Wave}
 use Rattle.waves.specs.Values as waves
-use Rattle.meets.specs.declared.Turn.{Turn}
-use Rattle.meets.specs.declared.Turn.TheVariants as turn
+use Rattle.meets.specs.declared.Angles.{Angles}
 use Rattle.meets.specs.declared.Meet.{Meet}
-use Rattle.meets.specs.Meets.{pipe_c}
 use Rattle.traces.specs.declared.Trace.{Trace}
 use Rattle.traces.specs.declared.Trace.TheVariants as trace
-use Rattle.piece_curves.specs.MeetCurves.{meet_curve_of, slope_u_c, slope_v_c}
+use Rattle.piece_curves.specs.MeetCurves.{meet_curve_c, slope_u_c, slope_v_c}
 use Rattle.developments.specs.Formulas.{radial_at_c, along_c}
 use Rattle.piece_normals.specs.Directions.{gradient_c, facing, side_c}
 
@@ -52,9 +50,9 @@ unfoldable pub own_c : Meet → Vec2 → Vec2 → Float → Vec2 → Checked Vec
 own_c m from to n p = do
   du ← num to.x ⊖ num from.x
   t ← (num p.x ⊖ num from.x) ⊘ num du
-  pipe ← pipe_c m n
-  x ← slope_u_c (meet_curve_of from to n m pipe) t
-  y ← slope_v_c (meet_curve_of from to n m pipe) t
+  c ← meet_curve_c from to n m
+  x ← slope_u_c c t
+  y ← slope_v_c c t
   given (plane x y)
 
 -- with it: the gradient at p is worked out first, then the pipe and what is read at the piece's
@@ -62,33 +60,25 @@ own_c m from to n p = do
 unfoldable pub hole_c : Meet → Vec2 → Vec2 → Float → Vec2 → Checked Vec2
 hole_c m from to n p = do
   g ← gradient_c m.origin m.axis m.own n p
-  pipe ← pipe_c m n
-  s ← side_c m.origin m.axis m.own (meet_curve_of from to n m pipe)
+  c ← meet_curve_c from to n m
+  s ← side_c m.origin m.axis m.own c
   given (facing g s)
 
 -- along a meet, where `turn` is known
-abbrev pub meet_by : Turn → Meet → Vec2 → Vec2 → Float → Vec2 → Checked Vec2
-meet_by turn.Without m from to n p = own_c m from to n p
-meet_by (turn.Angles f g) m from to n p = hole_c m from to n p
+abbrev pub meet_by : Option Angles → Meet → Vec2 → Vec2 → Float → Vec2 → Checked Vec2
+meet_by None m from to n p = own_c m from to n p
+meet_by (Some a) m from to n p = hole_c m from to n p
 
 -- along a meet
 unfoldable pub meet_c : Meet → Vec2 → Vec2 → Float → Vec2 → Checked Vec2
 meet_c m from to n p = meet_by m.turn m from to n p
 
--- along a trace
-unfoldable pub traced_c : Trace → Vec2 → Vec2 → Float → Vec2 → Checked Vec2
-traced_c (trace.Wave w) from to n p = wave_c w from to n p
-traced_c (trace.Meet m) from to n p = meet_c m from to n p
-
--- without an arc: along the trace, or straight on
-unfoldable pub without_arc_c : Option Trace → Vec2 → Vec2 → Float → Vec2 → Checked Vec2
-without_arc_c (Some t) from to n p = traced_c t from to n p
-without_arc_c None from to n p = straight_c from to
-
 -- an arc goes first, as in the Rust; a piece with both is refused where it is handed in
 unfoldable pub direction_c : Option ProfileArc → Option Trace → Vec2 → Vec2 → Float → Vec2 → Checked Vec2
 direction_c (Some a) trace' from to n p = arc_c a p
-direction_c None trace' from to n p = without_arc_c trace' from to n p
+direction_c None (Some (trace.Wave w)) from to n p = wave_c w from to n p
+direction_c None (Some (trace.Meet m)) from to n p = meet_c m from to n p
+direction_c None None from to n p = straight_c from to
 
 -- ---- at r from the axis, where the piece has the direction d
 unfoldable pub normal_c : Vec3 → Vec3 → Float → Vec2 → Vec2 → Float → Checked Vec3

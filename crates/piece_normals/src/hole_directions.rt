@@ -8,27 +8,28 @@ ghost use Rattle.piece_normals.specs.Directions.{gradient_c, facing, side_c};
 use checked::{Refusal, finite};
 use directions::formula::across;
 use libm::sincos::sincos;
+use meets::Meet;
 use piece_curves::meet_curves;
 use piece_curves::meet_curves::MeetCurve;
 use vectors::formula::{dot, minus, times};
 use vectors::{Vec2, Vec3};
 
 // The gradient at p of half the square of the distance from the pipe's axis, of the point at p on
-// the cylinder of radius `own`.
-pub fn gradient(origin: Vec3, axis: Vec3, own: f64, n: f64, p: Vec2) -> Result<Vec2, Refusal>
-    ensures { told result ≡ answered (gradient_c origin axis own n p) }
+// the development's own cylinder.
+pub fn gradient(m: Meet, n: f64, p: Vec2) -> Result<Vec2, Refusal>
+    ensures { told result ≡ answered (gradient_c m.origin m.axis m.own n p) }
 {
     let t = sincos(p.x / n)?;
-    let x = finite(own * t.cos)?;
-    let y = finite(own * t.sin)?;
+    let x = finite(m.own * t.cos)?;
+    let y = finite(m.own * t.sin)?;
     let at = Vec3 { x, y, z: p.y };
-    let w = across(axis, minus(at, origin));
+    let w = across(m.axis, minus(at, m.origin));
     let around = Vec3 {
         x: -t.sin,
         y: t.cos,
         z: 0.0,
     };
-    let g = finite(dot(w, times(around, own / n)))?;
+    let g = finite(dot(w, times(around, m.own / n)))?;
     Ok(Vec2 { x: g, y: w.z })
 }
 
@@ -47,10 +48,10 @@ pub fn facing(g: Vec2, side: f64) -> Vec2
 }
 
 // Which way the edge runs, by the piece at its middle.
-pub fn side(origin: Vec3, axis: Vec3, own: f64, c: MeetCurve) -> Result<f64, Refusal>
-    ensures { told result ≡ answered (side_c origin axis own c) }
+pub fn side(m: Meet, c: MeetCurve) -> Result<f64, Refusal>
+    ensures { told result ≡ answered (side_c m.origin m.axis m.own c) }
 {
-    let m = meet_curves::at(c, 0.5)?;
-    let g = gradient(origin, axis, own, c.neutral, m.p)?;
-    finite(g.x * m.d.y - g.y * m.d.x)
+    let middle = meet_curves::at(c, 0.5)?;
+    let g = gradient(m, c.neutral, middle.p)?;
+    finite(g.x * middle.d.y - g.y * middle.d.x)
 }

@@ -12,14 +12,12 @@ use Rattle.developments.specs.Developments.{development_within}
 use Rattle.piece_curves.specs.declared.meet_curves.Place.{Place}
 use Rattle.piece_boxes.specs.declared.brackets.FlatBox.{FlatBox}
 use Rattle.piece_lengths.specs.declared.measures.Measure.{Measure}
-use Rattle.piece_lengths.specs.Measures.{measure_c}
-use Rattle.piece_curves.specs.Points.{at_c}
 use Rattle.piece_lengths.specs.SecondDerivatives.{second_c}
 use Rattle.piece_boxes.specs.CurveBoxes.{box_c}
 use Rattle.piece_lengths.specs.Counts.{quadrature_c, chords_c, polyline_c}
 use Rattle.pieces.specs.Tests.{arc_within, followed_within, both}
 use Rattle.pieces.specs.declared.Rolled.{Rolled}
-use Rattle.pieces.specs.Pieces.{run_c, back, normal_c}
+use Rattle.pieces.specs.Pieces.{run_c, at_c, measure_c, back, normal_c}
 
 -- ---- what is tried
 -- all numbers of a piece are within the limit, those of an arc and of a trace too, read or not
@@ -34,9 +32,7 @@ tests p = fails OUT_OF_RANGE (piece_within p) or neutral_test p.dev.neutral or f
 -- ---- what is due
 -- `Rolled::at`
 unfoldable pub at_due : Rolled → Float → Due Place
-at_due p t = passing (fails OUT_OF_RANGE (within t) or tests p) (answered (do
-  r ← run_c p
-  at_c r t))
+at_due p t = passing (fails OUT_OF_RANGE (within t) or tests p) (answered (at_c p t))
 
 -- `Rolled::second`
 unfoldable pub second_due : Rolled → Float → Due Vec2
@@ -50,9 +46,7 @@ reversed_due p = passing (tests p) (due (back p))
 
 -- `Rolled::measure`
 unfoldable pub measure_due : Rolled → Due Measure
-measure_due p = passing (tests p) (answered (do
-  r ← run_c p
-  measure_c r))
+measure_due p = passing (tests p) (answered (measure_c p))
 
 -- `Rolled::quadrature_pieces`
 unfoldable pub quadrature_due : Rolled → Due ℕ

@@ -1,8 +1,7 @@
 -- What a piece follows, run the other way.
 use Rattle.profile_arcs.specs.declared.ProfileArc.{ProfileArc}
 use Rattle.std.specs.Prelude.{not, Some, None, Option}
-use Rattle.meets.specs.declared.Turn.{Turn}
-use Rattle.meets.specs.declared.Turn.TheVariants as turn
+use Rattle.meets.specs.declared.Angles.{Angles}
 use Rattle.traces.specs.declared.Trace.{Trace}
 use Rattle.traces.specs.declared.Trace.TheVariants as trace
 
@@ -12,9 +11,9 @@ arc_back None = None
 arc_back (Some a) = Some (record { center = a.center; ccw = not a.ccw })
 
 -- the two angles of a hole change places
-unfoldable pub turn_back : Turn → Turn
-turn_back turn.Without = turn.Without
-turn_back (turn.Angles f g) = turn.Angles g f
+unfoldable pub turn_back : Option Angles → Option Angles
+turn_back None = None
+turn_back (Some a) = Some (record { from = a.to; to = a.from })
 
 unfoldable pub curve_back : Trace → Trace
 curve_back (trace.Wave w) = trace.Wave w

@@ -1,5 +1,5 @@
 // A piece of a development: what a program may call is here, what others build on is in `formula`.
-#![tactic(auto)]
+#![tactic(auto, unfolding(crate::specs::Pieces::run_c, crate::specs::Pieces::back, crate::specs::Entries::piece_within, crate::specs::Reversals::curve_back))]
 
 ghost use Rattle.std.specs.Prelude.{◌≡◌};
 ghost use Rattle.checked.specs.Told.{told, failed};
@@ -47,6 +47,7 @@ fn is_development_within(d: Development) -> bool
 
 impl Rolled {
     // All numbers of the piece pass the test of what is handed in.
+    #[inline(always)]
     pub fn is_within_limit(self) -> bool
         ensures { result ≡ piece_within self }
     {
@@ -55,7 +56,9 @@ impl Rolled {
                 & (is_within2(self.to) & (is_arc_within(self.arc) & is_trace_within(self.trace))))
     }
 
-    // The refusal of the test that the piece fails first, where it fails one.
+    // The refusal of the test that the piece fails first, where it fails one. Inlined, since a call
+    // copies the piece.
+    #[inline(always)]
     pub fn tried(self) -> Result<(), Refusal>
         ensures { failed result ≡ tests self }
     {

@@ -3,7 +3,7 @@ ghost use Rattle.std.specs.Prelude.{◌≡◌};
 ghost use Rattle.pieces.specs.Tests.{arc_within, followed_within, both};
 ghost use Rattle.pieces.specs.Reversals.{arc_back, turn_back, curve_back, trace_back};
 
-use meets::{Meet, Turn};
+use meets::{Angles, Meet};
 use profile_arcs::ProfileArc;
 use traces::Trace;
 use vectors::is_within2;
@@ -29,19 +29,16 @@ pub fn are_both(arc: Option<ProfileArc>, trace: Option<Trace>) -> bool
 pub fn arc_back(arc: Option<ProfileArc>) -> Option<ProfileArc>
     ensures { result ≡ arc_back arc }
 {
-    arc.map(|a| ProfileArc {
-        center: a.center,
-        ccw: !a.ccw,
-    })
+    arc.map(|a| ProfileArc { ccw: !a.ccw, ..a })
 }
 
-fn turn_back(t: Turn) -> Turn
-    ensures { result ≡ turn_back t }
+fn turn_back(turn: Option<Angles>) -> Option<Angles>
+    ensures { result ≡ turn_back turn }
 {
-    match t {
-        Turn::Without => Turn::Without,
-        Turn::Angles(f, g) => Turn::Angles(g, f),
-    }
+    turn.map(|a| Angles {
+        from: a.to,
+        to: a.from,
+    })
 }
 
 fn curve_back(t: Trace) -> Trace
@@ -50,11 +47,8 @@ fn curve_back(t: Trace) -> Trace
     match t {
         Trace::Wave(w) => Trace::Wave(w),
         Trace::Meet(m) => Trace::Meet(Meet {
-            origin: m.origin,
-            axis: m.axis,
-            radius: m.radius,
-            own: m.own,
             turn: turn_back(m.turn),
+            ..m
         }),
     }
 }

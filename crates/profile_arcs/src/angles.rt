@@ -1,5 +1,7 @@
 // Angles turned about a centre, for numbers of any size. A turn that is not finite is for the
 // caller to try.
+#![tactic(auto, unfolding(crate::specs::Angles::ahead_c, crate::specs::Angles::back_c))]
+
 ghost use Rattle.std.specs.Prelude.{◌≡◌};
 ghost use Rattle.checked.specs.Checked.{answered};
 ghost use Rattle.checked.specs.Told.{told};

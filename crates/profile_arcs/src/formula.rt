@@ -11,6 +11,7 @@ use checked::{Refusal, finite};
 use vectors::Vec2;
 
 // b - a
+#[tactic(auto, unfolding(crate::specs::Profiles::apart_c))]
 fn apart(a: Vec2, b: Vec2) -> Vec2
     ensures { result ≡ (apart_c a b).value }
 {

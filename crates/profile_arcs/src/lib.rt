@@ -28,6 +28,7 @@ impl ProfileArc {
     }
 
     // The angle turned about the centre from a to b; one point twice is a full circle.
+    #[tactic(auto, using(checked::specs::ToldLaws::exit_is, checked::specs::ToldLaws::passing_number, checked::specs::ToldLaws::passes), unfolding(crate::specs::Profiles::turn_due))]
     pub fn turn(self, a: Vec2, b: Vec2) -> Result<f64, Refusal>
         ensures { told result ≡ turn_due self a b }
     {

@@ -2,13 +2,9 @@
 // whose answer is another.
 #![tactic(auto)]
 
-use std::fs::File;
-use std::num::wrapping_add_u64;
-use std::os::unix::fs::FileExt;
 use std::{fs, io};
 
 mod calls;
-mod names;
 mod of_arcs;
 mod of_curves;
 mod of_developments;
@@ -29,130 +25,89 @@ struct Tally {
     different: u64,
 }
 
-// What stands after a line: where the next one begins, the line's number, its operation, the tally of that and of all.
-#[derive(Drop)]
+// The calls of the operation in hand, with its name, and all that were run.
+#[derive(Clone, Copy)]
 struct Progress {
-    at: u64,
-    line: u64,
-    operation: u64,
-    here: Tally,
+    here: Option<(&'static str, Tally)>,
     all: Tally,
 }
 
-// More lines than the list has.
-const MOST: u32 = 1_000_000;
-
-const NONE: Tally = Tally {
-    alike: 0,
-    different: 0,
-};
-
 impl Tally {
+    const NONE: Self = Self {
+        alike: 0,
+        different: 0,
+    };
+
     fn count(&mut self, is_alike: bool) {
         if is_alike {
-            self.alike = wrapping_add_u64(self.alike, 1);
+            self.alike = self.alike.saturating_add(1);
         } else {
-            self.different = wrapping_add_u64(self.different, 1);
+            self.different = self.different.saturating_add(1);
         }
     }
 
-    fn print(&self, rt: &impl Print) -> io::Result<()> {
-        println!(rt; " {} alike, {} different", self.alike, self.different)
+    fn print(&self, rt: &impl Print, name: &str) -> io::Result<()> {
+        println!(rt; "{name} {} alike, {} different", self.alike, self.different)
     }
 }
 
 impl Progress {
-    // The line of an operation, where there is one.
+    const NONE: Self = Self {
+        here: None,
+        all: Tally::NONE,
+    };
+
+    // The line of the operation in hand, where there is one.
     fn print(&self, rt: &impl Print) -> io::Result<()> {
-        if self.operation > 0 {
-            print!(rt; "{}", names::of(self.operation))?;
-            self.here.print(rt)?;
+        match self.here {
+            Some((name, tally)) => tally.print(rt, name),
+            None => Ok(()),
         }
-        Ok(())
     }
 
-    // On to a line's operation: the one before is printed where that was another.
-    fn turn(&mut self, rt: &impl Print, operation: u64) -> io::Result<()> {
-        if operation != self.operation {
-            self.print(rt)?;
-            self.operation = operation;
-            self.here = NONE;
+    // The tally so far of an operation: the one before is printed where that was another.
+    fn turn(&self, rt: &impl Print, name: &str) -> io::Result<Tally> {
+        match self.here {
+            Some((before, tally)) if before == name => Ok(tally),
+            _ => {
+                self.print(rt)?;
+                Ok(Tally::NONE)
+            }
         }
-        Ok(())
     }
 
-    // Past a line of so many bytes and its newline.
-    fn pass(&mut self, bytes: usize) {
-        self.at = wrapping_add_u64(wrapping_add_u64(self.at, bytes as u64), 1);
-        self.line = wrapping_add_u64(self.line, 1);
+    // The call on line k, counted from 0.
+    fn step(&mut self, rt: &impl Print, k: usize, line: &[u8]) -> io::Result<()> {
+        let (name, is_alike) = calls::run(answer_lines::operation(line), line);
+        let mut tally = self.turn(rt, name)?;
+        if !is_alike {
+            println!(rt; "different at line {}", k.saturating_add(1))?;
+        }
+        tally.count(is_alike);
+        self.here = Some((name, tally));
+        self.all.count(is_alike);
+        Ok(())
     }
 }
 
 // A line that is no call: empty, or a comment.
 fn is_comment(line: &[u8]) -> bool {
-    match line.first() {
-        Some(byte) => *byte == b'#',
-        None => true,
-    }
+    matches!(line.first(), None | Some(b'#'))
 }
 
-fn step(rt: &impl Print, line: &[u8], p: &mut Progress) -> io::Result<()> {
-    if is_comment(line) {
-        return Ok(());
-    }
-    let operation = answer_lines::operation(line);
-    p.turn(rt, operation)?;
-    let is_alike = calls::is_alike(operation, line);
-    if !is_alike {
-        println!(rt; "different at line {}", p.line)?;
-    }
-    p.here.count(is_alike);
-    p.all.count(is_alike);
-    Ok(())
-}
-
-// One line read and run, and whether there was one. A line whose newline does not come within the buffer's bytes, or not at all, is
-// told: what follows is not run.
-fn is_next_run(rt: &impl Print, file: &File, p: &mut Progress) -> io::Result<bool> {
-    let mut buf = [0u8; 4096];
-    let n = file.read_at(&mut buf, p.at)?;
-    match buf[..n].iter().position(|b| *b == b'\n') {
-        Some(end) => {
-            p.pass(end);
-            step(rt, &buf[..end], p)?;
-            Ok(true)
-        }
-        None => {
-            if n > 0 {
-                println!(rt;
-                    "no end in 4096 bytes of line {}",
-                    wrapping_add_u64(p.line, 1)
-                )?;
-            }
-            Ok(false)
-        }
-    }
-}
-
-fn replay(rt: &impl Print, file: &File) -> io::Result<()> {
-    let mut p = Progress {
-        at: 0,
-        line: 0,
-        operation: 0,
-        here: NONE,
-        all: NONE,
-    };
-    for _ in 0..MOST {
-        if !is_next_run(rt, file, &mut p)? {
-            break;
+fn replay(rt: &impl Print, list: &str) -> io::Result<()> {
+    let mut p = Progress::NONE;
+    for (k, line) in list.lines().enumerate() {
+        let line = line.as_bytes();
+        if !is_comment(line) {
+            p.step(rt, k, line)?;
         }
     }
     p.print(rt)?;
-    print!(rt; "all")?;
-    p.all.print(rt)
+    p.all.print(rt, "all")
 }
 
 fn main(rt: HostRuntime) -> io::Result<()> {
-    replay(&rt, &fs::open(&rt, "answers.txt")?)?;
-    replay(&rt, &fs::open(&rt, "trials.txt")?)
+    replay(&rt, fs::read_to_string(&rt, "answers.txt")?.as_str())?;
+    replay(&rt, fs::read_to_string(&rt, "trials.txt")?.as_str())
 }

@@ -7,7 +7,6 @@ use exports::of_arcs::jr_arc_inner_points;
 use exports::of_curves::jr_curve_inner_points;
 use replay_lines::answers::{HELD, HELD_COUNT, are_numbers, is_due};
 use replay_lines::inputs::{number, numbers, tag};
-use std::num::wrapping_add_usize;
 
 // The longest row of most lines. The few longer ones are lent from an array that is filled for them alone.
 const ROW: usize = 900;
@@ -21,7 +20,7 @@ fn is_row(line: &[u8], inputs: u8, answer: u32, row: &[f64], written: u64) -> bo
     let n = written as usize;
     if answer == 0 {
         (n <= row.len())
-            & is_due(line, 0, wrapping_add_usize(first + 1, n))
+            & is_due(line, 0, (first + 1).wrapping_add(n))
             & (pattern(line, first) == written)
             & are_numbers(line, first + 1, n, false, row)
     } else {

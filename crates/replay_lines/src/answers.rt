@@ -2,7 +2,6 @@
 // chooses them, so that they too are compared by their patterns. Where a call is refused, what it was lent must be as it was.
 use crate::inputs::number;
 use answer_lines::{count, pattern, refusal};
-use std::num::wrapping_add_usize;
 
 // What an array holds before a call writes to it; no result is this number, this count or this tag.
 pub const HELD: f64 = 123456.789;
@@ -34,7 +33,7 @@ pub fn is_due(line: &[u8], answer: u32, patterns: usize) -> bool {
 // Number i of those that a call may write: of the first n it is the line's, from pattern k on, and else what it was. Of a record that is
 // `sparse` a number that its tags do not use is not written, and 0 in the line.
 fn is_number(line: &[u8], k: usize, n: usize, sparse: bool, i: usize, x: f64) -> bool {
-    let due = pattern(line, wrapping_add_usize(k, i));
+    let due = pattern(line, k.wrapping_add(i));
     if i < n {
         (due == checked::bits(x)) | (sparse & (due == 0) & (x == HELD))
     } else {
@@ -51,32 +50,31 @@ pub fn are_numbers(line: &[u8], k: usize, n: usize, sparse: bool, out: &[f64]) -
 // The numbers are the inputs of the line from pattern k on, a NaN for any other.
 fn are_inputs(line: &[u8], k: usize, out: &[f64]) -> bool {
     out.iter().enumerate().all(|(i, x)| {
-        let old = number(line, wrapping_add_usize(k, i));
+        let old = number(line, k.wrapping_add(i));
         checked::bits(old) == checked::bits(*x)
     })
 }
 
-// ---- answers after so many inputs
-pub fn is_answer(line: &[u8], inputs: u8, answer: u32, out: &[f64]) -> bool {
+// The line has, after so many inputs, a refusal or these numbers and so many patterns more.
+fn is_told(line: &[u8], inputs: u8, more: u8, sparse: bool, answer: u32, out: &[f64]) -> bool {
     let first = inputs as usize;
     let n = out.len();
     if answer == 0 {
-        is_due(line, 0, wrapping_add_usize(first, n)) & are_numbers(line, first, n, false, out)
+        let all = first.wrapping_add(n).wrapping_add(more as usize);
+        is_due(line, 0, all) & are_numbers(line, first, n, sparse, out)
     } else {
-        is_due(line, answer, first) & are_numbers(line, first, 0, false, out)
+        is_due(line, answer, first) & are_numbers(line, first, 0, sparse, out)
     }
+}
+
+// ---- answers after so many inputs
+pub fn is_answer(line: &[u8], inputs: u8, answer: u32, out: &[f64]) -> bool {
+    is_told(line, inputs, 0, false, answer, out)
 }
 
 // A piece, a surface or a curve, with so many patterns more after its numbers.
 pub fn is_record(line: &[u8], inputs: u8, more: u8, answer: u32, out: &[f64]) -> bool {
-    let first = inputs as usize;
-    let n = out.len();
-    let all = wrapping_add_usize(wrapping_add_usize(first, n), more as usize);
-    if answer == 0 {
-        is_due(line, 0, all) & are_numbers(line, first, n, true, out)
-    } else {
-        is_due(line, answer, first) & are_numbers(line, first, 0, true, out)
-    }
+    is_told(line, inputs, more, true, answer, out)
 }
 
 // The numbers at `place` of the line, a box or sums, changed.
@@ -84,7 +82,7 @@ pub fn is_change(line: &[u8], inputs: u8, place: u8, answer: u32, out: &[f64]) -
     let first = inputs as usize;
     let n = out.len();
     if answer == 0 {
-        is_due(line, 0, wrapping_add_usize(first, n)) & are_numbers(line, first, n, false, out)
+        is_due(line, 0, first.wrapping_add(n)) & are_numbers(line, first, n, false, out)
     } else {
         is_due(line, answer, first) & are_inputs(line, place as usize, out)
     }

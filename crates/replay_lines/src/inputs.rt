@@ -1,7 +1,6 @@
 // The inputs of a line: numbers, and arrays of so many numbers from the pattern k on.
 use answer_lines::pattern;
 use std::array;
-use std::num::wrapping_add_usize;
 
 pub fn number(line: &[u8], k: usize) -> f64 {
     checked::of_bits(pattern(line, k))
@@ -17,5 +16,5 @@ pub fn tag(line: &[u8], k: usize) -> u32 {
 
 // As many numbers as the call takes there.
 pub fn numbers<const N: usize>(line: &[u8], k: usize) -> [f64; N] {
-    array::from_fn(|i| number(line, wrapping_add_usize(k, i)))
+    array::from_fn(|i| number(line, k.wrapping_add(i)))
 }

@@ -55,7 +55,7 @@ lies_on cone (piece p) = eq cone.slope zero
 -- the running sums after the path
 unfoldable pub path_c : Revolved → Path → Integrals → Checked Integrals
 path_c v (arc a from to) s = arc_path_c v a from to s
-path_c v (piece p) s = piece_path_c v p.dev p.from p.to p.arc p.trace s
+path_c v (piece p) s = piece_path_c v p s
 
 -- ---- the Rust's `revolution`
 -- the sums of all paths: the surface is worked out before the first one, and where there is none

@@ -26,12 +26,12 @@ fn joined(acc: Integrals, convex: bool, sums: Integrals) -> Result<Integrals, Re
     let a = acc.surface;
     let b = sums.surface;
     let moment = plus(a.moment, b.moment);
-    let vector = plus(a.area_vector, b.area_vector);
+    let area_vector = plus(a.area_vector, b.area_vector);
     let s = SurfaceIntegrals {
         six_v: a.six_v + b.six_v,
-        moment: moment,
+        moment,
         area: a.area + sigma(convex) * b.area,
-        area_vector: vector,
+        area_vector,
     };
     let surface = s.finite()?;
     Ok(Integrals { surface })

@@ -3,7 +3,7 @@
 -- has prec digits, `round_root` is that whole number times 2 ^ h units. Assumes nothing.
 use mathlib.Core.Path.{◌≡◌, refl, sym, ap, ◌∙◌, subst}
 use mathlib.Core.Bool.{false, not}
-use Prim.Native.Nat.{ℕ, zero, suc, ◌+◌, ◌-◌, ◌*◌, ◌/◌, ◌%◌, ◌^◌, ◌≤◌, ◌<◌, zero-le, compare, Ordering}
+use Prim.Native.Nat.{ℕ, zero, suc, ◌+◌, ◌-◌, ◌*◌, ◌/◌, ◌^◌, ◌≤◌, ◌<◌, zero-le, compare, Ordering}
 use native.Mathlib.Nat.{le_trans, le_of_eq, le_antisymm, lt_of_lt_of_le, lt_of_le_of_lt, lt_of_not-le, not-le_of_lt, mul_assoc, mul-suc, suc-mul, mul-pos, mul-le-mul_left, mul-le-mul_right, mul-lt-mul_of_pos_right, lt_of_mul-lt-mul_right, eq_of_mul-eq-mul_right, mul-div_cancel, zero-lt-suc, div-eq_of_lt-le}
 use native.Mathlib.Omega.{arith}
 use lib.Dec.{T, eqb, leb→le, nleb→lt, is_le, compare_is_eq, eqb→eq, eqb_refl}
@@ -151,34 +151,6 @@ round_root_is f num den n h t D H lo hi N =
     ∙ ap (λ (q : ℕ). units f false (nearest q (compare (4 * (num * 4 ^ low f)) (middle q h * middle q h * den))) h) (kept p n h s w P S W lo hi)
     ∙ ap (λ (q : ℕ). units f false q h) (near_unique n (nearest s o) t (picked n s o (lt_of_lt_of_le (pow_pos (p - 1)) (s_ge p n h s w P S W lo hi)) S c) N)
 
--- ---- the body of `root_bits`: n is m or 2 * m, by the parity of e
-pub record Scaled (m e n : ℕ) : Type 0 where
-  pub same : n * 2 ^ 52 ≡ m * 2 ^ (52 + e % 2)
-  pub from : 2 ^ 52 ≤ n
-  pub below : n < 2 ^ 54
-
-pub scaled_even : (m e n : ℕ) → 2 ^ 52 ≤ m → m < 2 ^ 53 → e % 2 ≡ 0 → n ≡ m → Scaled m e n
-scaled_even m e n lo hi p q =
-    record {
-      same = ap (λ (k : ℕ). k * 2 ^ 52) q ∙ ap (λ (k : ℕ). m * 2 ^ (52 + k)) (sym p);
-      from = omega arith;
-      below = omega arith;
-    }
-
-pub scaled_odd : (m e n : ℕ) → 2 ^ 52 ≤ m → m < 2 ^ 53 → (e % 2 ≡ 0 → ⊥) → n ≡ 2 * m → Scaled m e n
-scaled_odd m e n lo hi p q =
-    record {
-      same = ap (λ (k : ℕ). k * 2 ^ 52) q ∙ twice m ∙ ap (λ (k : ℕ). m * 2 ^ (52 + k)) (sym (one e p));
-      from = omega arith;
-      below = omega arith;
-    }
-  where
-    twice : (k : ℕ) → 2 * k * 2 ^ 52 ≡ k * 2 ^ 53
-    twice k = omega arith
-
-    one : (k : ℕ) → (k % 2 ≡ 0 → ⊥) → k % 2 ≡ 1
-    one k h = omega arith
-
 -- a nearest root of what lies from 2 ^ 104 up and below 2 ^ 106
 pub near_range : (n t : ℕ) → 2 ^ 104 ≤ n → n < 2 ^ 106 → NearRoot n t → (2 ^ 52 ≤ t) × (t ≤ 2 ^ 53)
 near_range n t lo hi N = (near_le n t (2 ^ 52) N.under (low_end n lo), near_le n (2 ^ 53) t (high_end n hi) N.over)
@@ -188,15 +160,6 @@ near_range n t lo hi N = (near_le n t (2 ^ 52) N.under (low_end n lo), near_le n
 
     high_end : (k : ℕ) → k < 2 ^ 106 → k ≤ 2 ^ 53 * 2 ^ 53 + 2 ^ 53
     high_end k h = omega arith
-
-pub near_range_at : (n t : ℕ) → 2 ^ 52 ≤ n → n < 2 ^ 54 → NearRoot (n * 2 ^ 52) t → (2 ^ 52 ≤ t) × (t ≤ 2 ^ 53)
-near_range_at n t lo hi N = near_range (n * 2 ^ 52) t (a n lo) (b n hi) N
-  where
-    a : (k : ℕ) → 2 ^ 52 ≤ k → 2 ^ 104 ≤ k * 2 ^ 52
-    a k h = omega arith
-
-    b : (k : ℕ) → k < 2 ^ 54 → k * 2 ^ 52 < 2 ^ 106
-    b k h = omega arith
 
 -- ---- a root has a nearest whole number
 pub near_exists : (n : ℕ) → 0 < n → (t : ℕ) × NearRoot n t

@@ -31,8 +31,7 @@ pub fn moved(s: Surface, m: Rigid) -> Result<Surface, Refusal>
             Ok(Surface::Cylinder(Cylinder {
                 origin: x.origin,
                 axis: x.along,
-                radius: c.radius,
-                convex: c.convex,
+                ..c
             }))
         }
         Surface::Cone(c) => {
@@ -40,9 +39,7 @@ pub fn moved(s: Surface, m: Rigid) -> Result<Surface, Refusal>
             Ok(Surface::Cone(Cone {
                 origin: x.origin,
                 axis: x.along,
-                radius: c.radius,
-                slope: c.slope,
-                convex: c.convex,
+                ..c
             }))
         }
         Surface::Wall(w) => Ok(Surface::Wall(moved_piece(w, m)?)),
@@ -53,14 +50,7 @@ pub fn moved(s: Surface, m: Rigid) -> Result<Surface, Refusal>
 fn wall_normal(w: Rolled, p: Vec3) -> Result<Vec3, Refusal>
     ensures { told result ≡ answered (wall_c w p) }
 {
-    let q = unroll(
-        w.dev.origin,
-        w.dev.axis,
-        w.dev.start,
-        w.dev.neutral,
-        p,
-        w.from.x,
-    )?;
+    let q = unroll(w.dev, p, w.from.x)?;
     pieces::formula::normal(w, q.p, q.r)
 }
 
@@ -70,8 +60,8 @@ pub fn normal(s: Surface, p: Vec3) -> Result<Vec3, Refusal>
 {
     match s {
         Surface::Plane(f) => unit(f.normal),
-        Surface::Cylinder(c) => cylinder(c.origin, c.axis, c.convex, p),
-        Surface::Cone(c) => cone(c.origin, c.axis, c.slope, c.convex, p),
+        Surface::Cylinder(c) => cylinder(c, p),
+        Surface::Cone(c) => cone(c, p),
         Surface::Wall(w) => wall_normal(w, p),
     }
 }

@@ -1,5 +1,5 @@
 // The surface that a face lies on: what a program may call is here, the formulas that choose by its case in `formula`.
-#![tactic(auto)]
+#![tactic(auto, unfolding(crate::specs::Normals::faced_c, crate::specs::Surfaces::normal_c, crate::specs::Entries::tests, crate::specs::Surfaces::plane_of, crate::specs::Surfaces::cone_of, crate::specs::Entries::plane_due, crate::specs::Entries::revolution_due), using(checked::specs::ToldLaws::passes))]
 
 ghost use Rattle.std.specs.Prelude.{◌≡◌};
 ghost use Rattle.checked.specs.Told.{told, failed};
@@ -40,7 +40,9 @@ pub enum Surface {
 }
 
 impl Surface {
-    // The refusal of the test that the surface fails first, where it fails one.
+    // The refusal of the test that the surface fails first, where it fails one. Inlined, since a call
+    // copies the surface.
+    #[inline(always)]
     pub fn tried(self) -> Result<(), Refusal>
         ensures { failed result ≡ tests self }
     {

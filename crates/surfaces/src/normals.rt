@@ -4,7 +4,9 @@ ghost use Rattle.checked.specs.Checked.{answered};
 ghost use Rattle.checked.specs.Told.{told};
 ghost use Rattle.surfaces.specs.Normals.{faced_c, cylinder_c, cone_c};
 
+use crate::Cylinder;
 use checked::Refusal;
+use cones::Cone;
 use directions::formula::{radial, unit};
 use vectors::Vec3;
 use vectors::formula::{minus, neg, times};
@@ -16,19 +18,19 @@ fn faced(convex: bool, v: Vec3) -> Vec3
     if convex { v } else { neg(v) }
 }
 
-// The normal at p of a cylinder about an axis.
-pub fn cylinder(origin: Vec3, axis: Vec3, convex: bool, p: Vec3) -> Result<Vec3, Refusal>
-    ensures { told result ≡ answered (cylinder_c origin axis convex p) }
+// The normal at p of a cylinder.
+pub fn cylinder(c: Cylinder, p: Vec3) -> Result<Vec3, Refusal>
+    ensures { told result ≡ answered (cylinder_c c.origin c.axis c.convex p) }
 {
-    let r = radial(origin, axis, p)?;
-    Ok(faced(convex, r))
+    let r = radial(c.origin, c.axis, p)?;
+    Ok(faced(c.convex, r))
 }
 
-// The normal at p of a cone about an axis, whose radius gains `slope` per unit along it.
-pub fn cone(origin: Vec3, axis: Vec3, slope: f64, convex: bool, p: Vec3) -> Result<Vec3, Refusal>
-    ensures { told result ≡ answered (cone_c origin axis slope convex p) }
+// The normal at p of a cone.
+pub fn cone(c: Cone, p: Vec3) -> Result<Vec3, Refusal>
+    ensures { told result ≡ answered (cone_c c.origin c.axis c.slope c.convex p) }
 {
-    let r = radial(origin, axis, p)?;
-    let u = unit(minus(r, times(axis, slope)))?;
-    Ok(faced(convex, u))
+    let r = radial(c.origin, c.axis, p)?;
+    let u = unit(minus(r, times(c.axis, c.slope)))?;
+    Ok(faced(c.convex, u))
 }

@@ -5,8 +5,7 @@ use Rattle.checked.specs.Checked.{Checked, ◌>>=◌, given, num, ◌⊘◌, wit
 use Rattle.checked.specs.Tests.{fails, ◌or◌, passing, neutral_test}
 use Rattle.waves.specs.Values as wave_values
 use Rattle.waves.specs.Entries.{wave_within}
-use Rattle.meets.specs.declared.Turn.{Turn}
-use Rattle.meets.specs.declared.Turn.TheVariants as turn
+use Rattle.meets.specs.declared.Angles.{Angles}
 use Rattle.meets.specs.declared.Meet.{Meet}
 use Rattle.meets.specs.Meets as meets
 use Rattle.meets.specs.Entries.{meet_within}
@@ -19,11 +18,11 @@ meet_height_c m u n = do
   phi ← num u ⊘ num n
   meets.height_c m phi n
 
-abbrev pub meet_by : Turn → Meet → Float → Float → Checked (Option Float)
-meet_by turn.Without m u n = do
+abbrev pub meet_by : Option Angles → Meet → Float → Float → Checked (Option Float)
+meet_by None m u n = do
   z ← meet_height_c m u n
   given (Some z)
-meet_by (turn.Angles f g) m u n = given None
+meet_by (Some a) m u n = given None
 
 unfoldable pub meet_c : Meet → Float → Float → Checked (Option Float)
 meet_c m u n = meet_by m.turn m u n

@@ -1,4 +1,6 @@
 // The vectors' operations on numbers of any size. A result that is not finite is for the caller to try.
+#![tactic(auto, unfolding(crate::specs::Vectors::plus_c, crate::specs::Vectors::minus_c, crate::specs::Vectors::times_c, crate::specs::Vectors::neg_c, crate::specs::Vectors::cross_c, crate::specs::Vectors::dot_c))]
+
 ghost use Rattle.std.specs.Prelude.{◌≡◌};
 ghost use Rattle.checked.specs.Checked.{settled};
 ghost use Rattle.checked.specs.Told.{told};

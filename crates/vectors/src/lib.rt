@@ -1,5 +1,5 @@
 // Vectors in the plane and in space: what a program may call is here, the bare formulas are in `formula`.
-#![tactic(auto)]
+#![tactic(auto, using(checked::specs::ToldLaws::exit_is, checked::specs::ToldLaws::passing_number, checked::specs::ToldLaws::passes, crate::specs::Laws::opened), unfolding(crate::specs::Vectors::within2, crate::specs::Vectors::within3, crate::specs::Entries::dot_due, crate::specs::Entries::cross_due, crate::specs::Entries::sum_due, crate::specs::Entries::difference_due, crate::specs::Entries::negation_due, crate::specs::Entries::times_due, crate::specs::Entries::to_array_due, crate::specs::Entries::largest, crate::specs::Entries::dominant_axis_due))]
 
 ghost use Rattle.std.specs.Prelude.{◌≡◌, ◌&&◌};
 ghost use Rattle.checked.specs.Checked.{within};
@@ -69,7 +69,7 @@ impl Vec2 {
     pub fn new(x: f64, y: f64) -> Self
         ensures { result ≡ plane x y }
     {
-        Self { x: x, y: y }
+        Self { x, y }
     }
 }
 
@@ -102,7 +102,7 @@ impl Vec3 {
     pub fn new(x: f64, y: f64, z: f64) -> Self
         ensures { result ≡ space x y z }
     {
-        Self { x: x, y: y, z: z }
+        Self { x, y, z }
     }
 
     pub fn dot(self, o: Self) -> Result<f64, Refusal>

@@ -27,6 +27,6 @@ unfoldable pub wall_c : Rolled → Float → Float → Vec3 → Integrals → Ch
 wall_c p r0 r1 o s = do
   r ← run_c p
   n ← quadrature_c r
-  v ← strip_c p.dev.origin p.dev.axis p.dev.start p.dev.neutral r0 r1 o
+  v ← strip_c p.dev r0 r1 o
   t ← along_c (node_at_c v r) n s.surface
   given (record { surface = t })

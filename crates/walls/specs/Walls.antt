@@ -1,13 +1,14 @@
 -- The integrals of the wall of a cut at one place along it. The wall's own coordinates are (t, r),
 -- with n dA = (∂r × ∂t) dt dr.
 use Rattle.std.specs.Prelude.{ℕ, ◌/◌, Float}
-use Rattle.checked.specs.Checked.{Checked, ◌>>=◌, given, num, ◌⊕◌, ◌⊖◌, ◌⊗◌, ◌⊘◌}
+use Rattle.checked.specs.Checked.{Checked, ◌>>=◌, given, num, ◌⊕◌, ◌⊖◌, ◌⊗◌}
 use Rattle.checked.specs.Numbers.{literal, half, two, six}
 use Rattle.vectors.specs.declared.Vec2.{Vec2}
 use Rattle.vectors.specs.declared.Vec3.{Vec3}
 use Rattle.vectors.specs.Vectors.{vec, ◌⊞◌, ◌⊟◌, ◌⊠◌, ◌⊡◌, ◌⨯◌}
 use Rattle.checked.specs.Loops.{fold_c}
 use Rattle.rounding.specs.Computations.{sqrt_c}
+use Rattle.developments.specs.declared.Development.{Development}
 use Rattle.developments.specs.Formulas as rolls
 use Rattle.integrals.specs.declared.SurfaceIntegrals.{SurfaceIntegrals}
 use Rattle.integrals.specs.Gauss.{weight, lies, panel_c}
@@ -18,12 +19,12 @@ abbrev pub quarter : Float
 quarter = literal 0x3fd0_0000_0000_0000
 
 -- what `wall` works out before its loop, but for the length of a panel
-unfoldable pub strip_c : Vec3 → Vec3 → Vec3 → Float → Float → Float → Vec3 → Checked Strip
-strip_c origin axis start neutral r0 r1 o = do
+unfoldable pub strip_c : Development → Float → Float → Vec3 → Checked Strip
+strip_c dev r0 r1 o = do
   hr ← num r1 ⊖ num r0
   mr ← num half ⊗ (num r0 ⊕ num r1)
-  base ← vec origin ⊟ vec o
-  given (record { axis = axis; start = start; neutral = neutral; base = base; hr = hr; mr = mr })
+  base ← vec dev.origin ⊟ vec o
+  given (record { dev = dev; base = base; hr = hr; mr = mr })
 
 -- the sums with the patch at x added, whose normal is n
 unfoldable pub added_c : Vec3 → Vec3 → SurfaceIntegrals → Checked SurfaceIntegrals
@@ -42,24 +43,24 @@ normal_c v radial moves h wt wr r = vec radial ⨯ moves r ⊠ (num quarter ⊗ 
 -- the sums after the node at r
 unfoldable pub patch_c : Strip → Vec2 → Vec3 → (Float → Checked Vec3) → Float → Float → Float → Float → SurfaceIntegrals → Checked SurfaceIntegrals
 patch_c v p radial moves h wt wr r s = do
-  x ← vec v.base ⊞ vec v.axis ⊠ num p.y ⊞ vec radial ⊠ num r
+  x ← vec v.base ⊞ vec v.dev.axis ⊠ num p.y ⊞ vec radial ⊠ num r
   n ← normal_c v radial moves h wt wr r
   added_c x n s
 
 -- `Development::along`, which works out the direction away from the axis once more
 abbrev pub along_c : Strip → Vec2 → Vec2 → Float → Checked Vec3
-along_c v p d r = rolls.along_c v.axis v.start v.neutral p d r
+along_c v p d r = rolls.along_c v.dev.axis v.dev.start v.dev.neutral p d r
 
 -- the sums after all radii where the piece is at p and moves by d
 unfoldable pub node_c : Strip → Vec2 → Vec2 → Float → Float → SurfaceIntegrals → Checked SurfaceIntegrals
 node_c v p d h wt s = do
-  radial ← rolls.radial_at_c v.axis v.start v.neutral p.x
+  radial ← rolls.radial_at_c v.dev.axis v.dev.start v.dev.neutral p.x
   panel_c (patch_c v p radial (along_c v p d) h wt) v.hr v.mr s
 
 -- ---- the same with the direction away from the axis at hand, as the code has it
 -- how the point at r moves
 abbrev pub known_c : Strip → Vec2 → Vec3 → Float → Checked Vec3
-known_c v d radial r = vec v.axis ⨯ vec radial ⊠ (num d.x ⊗ num r ⊘ num v.neutral) ⊞ vec v.axis ⊠ num d.y
+known_c v d radial r = rolls.moves_c v.dev.axis v.dev.neutral radial d r
 
 -- the sums after the node k of the radii, counted as they are taken
 abbrev pub radius_c : Strip → Vec2 → Vec2 → Vec3 → Float → Float → ℕ → SurfaceIntegrals → Checked SurfaceIntegrals

@@ -4,36 +4,24 @@
 ghost use Rattle.std.specs.Prelude.{◌≡◌};
 ghost use Rattle.checked.specs.Told.{told, failed};
 ghost use Rattle.checked.specs.Answers.{Lent};
-ghost use Rattle.walls.specs.Entries.{wall_within, wall_tests, wall_due};
+ghost use Rattle.walls.specs.Entries.{wall_tests, wall_due};
 
-use checked::{Refusal, require, require_neutral};
+use checked::{Refusal, require};
 use integrals::Integrals;
 use pieces::Rolled;
-use pieces::parts::{are_both, is_arc_within, is_trace_within};
 use vectors::{Vec2, Vec3, is_within2, is_within3};
 
 pub mod formula;
-
-// Every number handed in but for the sums; the piece part by part, as a call that takes it by value
-// copies it.
-fn is_wall_within(p: Rolled, r0: f64, r1: f64, o: Vec3) -> bool
-    ensures { result ≡ wall_within p r0 r1 o }
-{
-    let d = p.dev;
-    let a = p.arc;
-    let t = p.trace;
-    (d.is_within_limit()
-        & (is_within2(p.from) & (is_within2(p.to) & (is_arc_within(a) & is_trace_within(t)))))
-        & (is_within2(Vec2 { x: r0, y: r1 }) & is_within3(o))
-}
 
 // The tests of all that is handed in.
 fn require_wall(acc: Integrals, p: Rolled, r0: f64, r1: f64, o: Vec3) -> Result<(), Refusal>
     ensures { failed result ≡ wall_tests p r0 r1 o acc }
 {
-    require(is_wall_within(p, r0, r1, o), Refusal::OutOfRange)?;
-    require_neutral(p.dev.neutral)?;
-    require(!are_both(p.arc, p.trace), Refusal::ArcAndTrace)?;
+    require(
+        is_within2(Vec2 { x: r0, y: r1 }) & is_within3(o),
+        Refusal::OutOfRange,
+    )?;
+    p.tried()?;
     require(acc.is_finite(), Refusal::BadBoxOrSums)
 }
 

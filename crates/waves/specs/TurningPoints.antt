@@ -9,17 +9,18 @@ use Rattle.order.specs.Least.{least, greatest}
 use Rattle.rounding.specs.Computations.{ceil_c}
 use Rattle.checked.specs.Loops.{while_c}
 use Rattle.waves.specs.Values.{v_c}
+use Rattle.waves.specs.declared.Wave.{Wave}
 use Rattle.waves.specs.declared.turning_points.Span.{Span}
 use Rattle.waves.specs.declared.turning_points.Turning.{Turning}
 use Rattle.waves.specs.declared.turning_points.RangeSoFar.{RangeSoFar}
 
 -- A wave turns where its derivative, (c·cos − b·sin) / n, is 0, so where tan(u/n) = c/b: at n times the angle of (b,
 -- c), and at every half turn, π·n, from there.
-unfoldable pub turning_c : Float → Float → Float → Float → Float → Checked Turning
-turning_c a b c n hi = do
-  first' ← finite (atan2 c b) ⊗ num n
+unfoldable pub turning_c : Wave → Float → Float → Checked Turning
+turning_c w n hi = do
+  first' ← finite (atan2 w.c w.b) ⊗ num n
   half ← num pi ⊗ num n
-  given (record { a = a; b = b; c = c; n = n; hi = hi; first = first'; half = half })
+  given (record { wave = w; n = n; hi = hi; first = first'; half = half })
 
 -- the number of the first one not before `lo`
 unfoldable pub start_c : Turning → Float → Checked Float
@@ -39,7 +40,7 @@ inside_c t s = do
 unfoldable pub taken_c : Turning → RangeSoFar → Checked RangeSoFar
 taken_c t s = do
   p ← spot_c t s.k
-  v ← v_c t.a t.b t.c p t.n
+  v ← v_c t.wave.a t.wave.b t.wave.c p t.n
   k ← num s.k ⊕ num one
   given (record { k = k; low = least s.low v; high = greatest s.high v })
 
@@ -58,6 +59,6 @@ unfoldable pub range_c : Float → Float → Float → Float → Float → Float
 range_c a b c u0 u1 n = do
   x ← v_c a b c (least u0 u1) n
   y ← v_c a b c (greatest u0 u1) n
-  t ← turning_c a b c n (greatest u0 u1)
+  t ← turning_c (record { a = a; b = b; c = c }) n (greatest u0 u1)
   k ← start_c t (least u0 u1)
   turns_c t k (least x y) (greatest x y)

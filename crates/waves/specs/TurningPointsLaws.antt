@@ -14,13 +14,14 @@ use Rattle.order.specs.Least.{least, greatest}
 use Rattle.rounding.specs.Laws.{rules as rounding_rules}
 use Rattle.waves.specs.Values.{v_c}
 use Rattle.waves.specs.ValuesLaws.{v_refusal}
+use Rattle.waves.specs.declared.Wave.{Wave}
 use Rattle.waves.specs.declared.turning_points.Turning.{Turning}
 use Rattle.waves.specs.declared.turning_points.RangeSoFar.{RangeSoFar}
 use Rattle.waves.specs.TurningPoints.{TURNING_POINTS, turning_c, spot_c, inside_c, taken_c, start_c, turns_c}
 
-pub turning_refusal : (a b c n hi : Float) → (turning_c a b c n hi).refusal ≡ first (nine (turning_c a b c n hi).value.first) (nine (turning_c a b c n hi).value.half)
+pub turning_refusal : (w : Wave) (n hi : Float) → (turning_c w n hi).refusal ≡ first (nine (turning_c w n hi).value.first) (nine (turning_c w n hi).value.half)
 unfolding turning_c
-turning_refusal a b c n hi = simp checked_rules
+turning_refusal w n hi = simp checked_rules
 
 pub start_refusal : (t : Turning) (lo : Float) → (start_c t lo).refusal ≡ nine (start_c t lo).value
 unfolding start_c
@@ -37,11 +38,11 @@ module _ (t : Turning) (s : RangeSoFar) where
   inside_refusal = simp checked_rules
 
   -- a turning point is noted where the wave there is worked out
-  pub taken_refusal : (taken_c t s).refusal ≡ first (v_c t.a t.b t.c (spot_c t s.k).value t.n).refusal (nine (add binary64 s.k one))
+  pub taken_refusal : (taken_c t s).refusal ≡ first (v_c t.wave.a t.wave.b t.wave.c (spot_c t s.k).value t.n).refusal (nine (add binary64 s.k one))
   unfolding taken_c
   taken_refusal = simp (v_refusal, checked_rules)
 
-  pub taken_value : (taken_c t s).value ≡ (let v = (v_c t.a t.b t.c (spot_c t s.k).value t.n).value in record { k = add binary64 s.k one; low = least s.low v; high = greatest s.high v })
+  pub taken_value : (taken_c t s).value ≡ (let v = (v_c t.wave.a t.wave.b t.wave.c (spot_c t s.k).value t.n).value in record { k = add binary64 s.k one; low = least s.low v; high = greatest s.high v })
   unfolding taken_c
   taken_value = refl
 

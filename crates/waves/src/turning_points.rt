@@ -4,6 +4,7 @@ ghost use Rattle.checked.specs.Checked.{answered};
 ghost use Rattle.checked.specs.Told.{told};
 ghost use Rattle.waves.specs.TurningPoints.{turning_c, start_c, turns_c, range_c};
 
+use crate::Wave;
 use crate::values::v;
 use checked::{PI, Refusal, finite};
 use libm::atan2::atan2;
@@ -20,12 +21,10 @@ pub struct Span {
     pub high: f64,
 }
 
-// The turning points of the wave of a, b, c and n up to `hi`: the k-th is at first + k·half.
+// The turning points of a wave, of the neutral radius n, up to `hi`: the k-th is at first + k·half.
 #[derive(Clone, Copy)]
 pub struct Turning {
-    pub a: f64,
-    pub b: f64,
-    pub c: f64,
+    pub wave: Wave,
     pub n: f64,
     pub hi: f64,
     pub first: f64,
@@ -40,15 +39,13 @@ pub struct RangeSoFar {
     pub high: f64,
 }
 
-fn turning_of(a: f64, b: f64, c: f64, n: f64, hi: f64) -> Result<Turning, Refusal>
-    ensures { told result ≡ answered (turning_c a b c n hi) }
+fn turning_of(wave: Wave, n: f64, hi: f64) -> Result<Turning, Refusal>
+    ensures { told result ≡ answered (turning_c wave n hi) }
 {
-    let first = finite(atan2(c, b) * n)?;
+    let first = finite(atan2(wave.c, wave.b) * n)?;
     let half = finite(PI * n)?;
     Ok(Turning {
-        a,
-        b,
-        c,
+        wave,
         n,
         hi,
         first,
@@ -57,6 +54,7 @@ fn turning_of(a: f64, b: f64, c: f64, n: f64, hi: f64) -> Result<Turning, Refusa
 }
 
 // The number of the first turning point not before `lo`.
+#[tactic(auto, using(crate::specs::TurningPointsLaws::start_refusal), unfolding(crate::specs::TurningPoints::start_c))]
 fn start(t: Turning, lo: f64) -> Result<f64, Refusal>
     ensures { told result ≡ answered (start_c t lo) }
 {
@@ -76,7 +74,7 @@ fn turns(t: Turning, k: f64, low: f64, high: f64) -> Result<Span, Refusal>
                 high: s.high,
             });
         }
-        let x = v(t.a, t.b, t.c, p, t.n)?;
+        let x = v(t.wave, p, t.n)?;
         let next = finite(s.k + 1.0)?;
         s = RangeSoFar {
             k: next,
@@ -95,14 +93,14 @@ fn turns(t: Turning, k: f64, low: f64, high: f64) -> Result<Span, Refusal>
     }
 }
 
-pub fn range(a: f64, b: f64, c: f64, u0: f64, u1: f64, n: f64) -> Result<Span, Refusal>
-    ensures { told result ≡ answered (range_c a b c u0 u1 n) }
+pub fn range(w: Wave, u0: f64, u1: f64, n: f64) -> Result<Span, Refusal>
+    ensures { told result ≡ answered (range_c w.a w.b w.c u0 u1 n) }
 {
     let lo = least(u0, u1);
     let hi = greatest(u0, u1);
-    let x = v(a, b, c, lo, n)?;
-    let y = v(a, b, c, hi, n)?;
-    let t = turning_of(a, b, c, n, hi)?;
+    let x = v(w, lo, n)?;
+    let y = v(w, hi, n)?;
+    let t = turning_of(w, n, hi)?;
     let k = start(t, lo)?;
     turns(t, k, least(x, y), greatest(x, y))
 }

@@ -5,6 +5,7 @@ ghost use Rattle.checked.specs.Checked.{answered};
 ghost use Rattle.checked.specs.Told.{told};
 ghost use Rattle.waves.specs.Values.{v_c, slope_c, bend_c, with_slope_c, derivatives_c};
 
+use crate::Wave;
 use checked::{Refusal, finite};
 use libm::sincos::sincos;
 
@@ -23,44 +24,44 @@ pub struct Jet {
     pub bend: f64,
 }
 
-pub fn v(a: f64, b: f64, c: f64, u: f64, n: f64) -> Result<f64, Refusal>
-    ensures { told result ≡ answered (v_c a b c u n) }
+pub fn v(w: Wave, u: f64, n: f64) -> Result<f64, Refusal>
+    ensures { told result ≡ answered (v_c w.a w.b w.c u n) }
 {
     let t = sincos(u / n)?;
-    finite(a + b * t.cos + c * t.sin)
+    finite(w.a + w.b * t.cos + w.c * t.sin)
 }
 
-pub fn slope(b: f64, c: f64, u: f64, n: f64) -> Result<f64, Refusal>
-    ensures { told result ≡ answered (slope_c b c u n) }
+pub fn slope(w: Wave, u: f64, n: f64) -> Result<f64, Refusal>
+    ensures { told result ≡ answered (slope_c w.b w.c u n) }
 {
     let t = sincos(u / n)?;
-    finite((c * t.cos - b * t.sin) / n)
+    finite((w.c * t.cos - w.b * t.sin) / n)
 }
 
-pub fn bend(b: f64, c: f64, u: f64, n: f64) -> Result<f64, Refusal>
-    ensures { told result ≡ answered (bend_c b c u n) }
+pub fn bend(w: Wave, u: f64, n: f64) -> Result<f64, Refusal>
+    ensures { told result ≡ answered (bend_c w.b w.c u n) }
 {
     let t = sincos(u / n)?;
     let s = finite(n * n)?;
-    finite(-(b * t.cos + c * t.sin) / s)
+    finite(-(w.b * t.cos + w.c * t.sin) / s)
 }
 
-pub fn with_slope(a: f64, b: f64, c: f64, u: f64, n: f64) -> Result<WaveSlope, Refusal>
-    ensures { told result ≡ answered (with_slope_c a b c u n) }
+pub fn with_slope(w: Wave, u: f64, n: f64) -> Result<WaveSlope, Refusal>
+    ensures { told result ≡ answered (with_slope_c w.a w.b w.c u n) }
 {
     let t = sincos(u / n)?;
-    let v = finite(a + b * t.cos + c * t.sin)?;
-    let slope = finite((c * t.cos - b * t.sin) / n)?;
+    let v = finite(w.a + w.b * t.cos + w.c * t.sin)?;
+    let slope = finite((w.c * t.cos - w.b * t.sin) / n)?;
     Ok(WaveSlope { v, slope })
 }
 
-pub fn jet_at(a: f64, b: f64, c: f64, u: f64, n: f64) -> Result<Jet, Refusal>
-    ensures { told result ≡ answered (derivatives_c a b c u n) }
+pub fn jet_at(w: Wave, u: f64, n: f64) -> Result<Jet, Refusal>
+    ensures { told result ≡ answered (derivatives_c w.a w.b w.c u n) }
 {
     let t = sincos(u / n)?;
-    let v = finite(a + b * t.cos + c * t.sin)?;
-    let slope = finite((c * t.cos - b * t.sin) / n)?;
+    let v = finite(w.a + w.b * t.cos + w.c * t.sin)?;
+    let slope = finite((w.c * t.cos - w.b * t.sin) / n)?;
     let s = finite(n * n)?;
-    let bend = finite(-(b * t.cos + c * t.sin) / s)?;
+    let bend = finite(-(w.b * t.cos + w.c * t.sin) / s)?;
     Ok(Jet { v, slope, bend })
 }

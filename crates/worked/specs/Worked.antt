@@ -40,7 +40,6 @@ use Rattle.waves.specs.declared.Wave.{Wave}
 use Rattle.waves.specs.Entries.{wave_within, at_due}
 use Rattle.meets.specs.Quadratic.{own_c, lesser_c, intersection_c}
 use Rattle.meets.specs.Generatrix.{height_c as z_c}
-use Rattle.meets.specs.declared.Turn.TheVariants as turn
 use Rattle.meets.specs.declared.Meet.{Meet}
 use Rattle.meets.specs.Meets.{pipe_c, height_c}
 use Rattle.meets.specs.Entries.{turn_within, meet_within}
@@ -152,7 +151,7 @@ swing = record { a = two; b = three; c = zero }
 
 -- the cylinder of radius 10 along x, 20 above the origin, met by the development's own pipe
 abbrev main : Meet
-main = record { origin = space zero zero (float 20); axis = space one zero zero; radius = float 10; own = one; turn = turn.Without }
+main = record { origin = space zero zero (float 20); axis = space one zero zero; radius = float 10; own = one; turn = None }
 
 -- a development around z, of the neutral radius 10; in it a piece straight on, one about the
 -- origin, and one along a wave of no amplitude
@@ -219,5 +218,5 @@ cases =
 
 -- every case computes
 pub all_hold : All cases
-unfolding cases add sub mul div neg lt le eq is_nan of_bits to_bits first is_finite nine within settled fabs signed choose sqrt reduced atan is_one ratio_angle angle atan2 negative least greatest within2 within3 plus_c minus_c times_c neg_c cross_c dot_c lesser greater widened widened_by numbers free box_call length_c across_c ahead_c back_c apart_c turn_c turn_due sweep_from_c sweep_c side_c taken_c both_c extremes_c points_c circle_within ends_within chord_within sweep_due extend_due reversed_c reversed_due in_bytes number point arc_record signed_whole thousandths spelled digits numeral bytes spaced corner empty_line refused_line box_line low_first number_at point_at tagged head_of kind_of edge_of record_of size_of next ended line_from line_of of_int to_unsigned to_signed eight ceil second_round medium to_five to_nine rem_pio2 turned_sines sines sines_or_zeros acos_far acos_near acos quotient_c chords_c clamped per_turn_c limited_c count_c up_to radius_vector_c turned_c at_c cut_c inner_c inners_due inner_points_due fails passing neutral_test chord_test derivatives_c wave_within at_due own_c lesser_c intersection_c z_c pipe_c height_c turn_within meet_within meet_height_c meet_c v_c trace_within v_due hypotenuse.greater hypotenuse.lesser hypotenuse.hypot_ordered hypot development_within runs.traced_c runs.untraced runs.kind_c runs.curve_c run_points.straight_c run_points.at_c distance_c run_boxes.ends run_boxes.arc_c run_boxes.box_c steep_c off_c wave_line_c polyline_c arc_within followed_within is_traced both run_c pieces.piece_within pieces.tests pieces.at_due pieces.uv_box_due pieces.polyline_due
+unfolding cases add sub mul div neg lt le eq is_nan of_bits to_bits first is_finite nine within settled fabs signed choose sqrt reduced atan is_one ratio_angle angle atan2 negative least greatest within2 within3 plus_c minus_c times_c neg_c cross_c dot_c lesser greater widened widened_by numbers free box_call length_c across_c ahead_c back_c apart_c turn_c turn_due sweep_from_c sweep_c side_c taken_c both_c extremes_c points_c circle_within ends_within chord_within sweep_due extend_due reversed_c reversed_due in_bytes number point arc_record signed_whole thousandths spelled digits numeral bytes spaced corner empty_line refused_line box_line low_first number_at point_at tagged head_of kind_of edge_of record_of size_of next ended line_from line_of of_int to_unsigned to_signed eight ceil second_round medium to_five to_nine rem_pio2 turned_sines sines sines_or_zeros acos_far acos_near acos quotient_c chords_c clamped per_turn_c limited_c count_c up_to radius_vector_c turned_c at_c cut_c inner_c inners_due inner_points_due fails passing neutral_test chord_test derivatives_c wave_within at_due own_c lesser_c intersection_c z_c pipe_c height_c turn_within meet_within meet_height_c meet_c v_c trace_within v_due hypotenuse.greater hypotenuse.lesser hypotenuse.hypot_ordered hypot development_within runs.kind_c runs.curve_c run_points.straight_c run_points.at_c distance_c run_boxes.ends run_boxes.arc_c run_boxes.box_c steep_c off_c wave_line_c polyline_c arc_within followed_within is_traced both run_c pieces.piece_within pieces.tests pieces.at_due pieces.uv_box_due pieces.polyline_due
 all_hold = (refl, (refl, (refl, (refl, (refl, (refl, (refl, (refl, (refl, (refl, (refl, (refl, (refl, (refl, (refl, (refl, (refl, (refl, (refl, tt)))))))))))))))))))

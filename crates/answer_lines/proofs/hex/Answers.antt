@@ -1,6 +1,6 @@
 use Rattle.std.proofs.Common.{arith, refl}
 use Rattle.answer_lines.specs.Lines.{spelt}
-use Rattle.answer_lines.specs.Laws.{spelt_more, spelt_fits, spelt_all, digit_small}
+use Rattle.answer_lines.specs.Laws.{spelt_more, spelt_fits, digit_small}
 use Rattle.answer_lines.proofs.hex.Goals as goal
 
 pub loop-i-init : goal.loop-i-init
@@ -15,6 +15,3 @@ overflow_add-n c = omega (arith, spelt_fits _ _ _ _ c.loop-i.invariant c.loop-i-
 
 pub loop-i-preserved : goal.loop-i-preserved
 loop-i-preserved c = simp (c.digit.ensures, c.loop-i.invariant) (spelt_more _ _ _ _)
-
-pub returns : goal.returns
-returns c = spelt_all _ _ _ _ c.loop-i.invariant c.loop-i.auto.i-end c.loop-i-test.false

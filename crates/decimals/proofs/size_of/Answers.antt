@@ -1,15 +1,9 @@
 -- `decimals::size_of` meets its contract. `proofs/Sizes.antt` says what each arm returns. Assumes nothing.
-use Prim.Native.Nat.{◌*◌, ◌+◌, ◌-◌, ◌/◌, ◌%◌, ◌^◌}
+use Prim.Native.Nat.{◌/◌, ◌%◌, ◌^◌}
 use native.Mathlib.Nat.{mod-lt}
-use native.Mathlib.Omega.{arith}
-use lib.Pow.{pow_pos, shr_le}
+use lib.Pow.{pow_pos}
 use Rattle.decimals.proofs.Sizes.{nothing, some, too_many}
 use Rattle.decimals.proofs.size_of.Goals as goal
-
-pub overflow_add-result : goal.overflow_add-result
-overflow_add-result c =
-    let b = c.args.b in
-    omega (arith, shr_le (1000 * (b % 2 ^ 52 + 2 ^ 52)) (1074 - b / 2 ^ 52))
 
 pub returns-then-field-lt1012 : goal.returns-then-field-lt1012
 returns-then-field-lt1012 c = let b = c.args.b in λ s. nothing s (b / 2 ^ 52) (b % 2 ^ 52) c.if-field-lt1012.true (mod-lt b (pow_pos 52))

@@ -10,5 +10,5 @@ returns-in_err-way c =
 pub returns : goal.returns
 returns c =
     gives _ _
-    (unfold curve_c in simp (value_is _ _ c.in_ok-way.ensures, none_met _ _ c.in_ok-way.ensures, told_rules))
+    (unfold curve_c in simp (none_met _ _ c.in_ok-way.ensures, told_rules))
     (unfold curve_c in simp (value_is _ _ c.in_ok-way.ensures))

@@ -7,24 +7,24 @@ returns-in_err-g c =
     let g = c.in_err-g.ensures in
     stops _ _ _ c.from_residual.ensures (unfold hole_c in simp (met_is _ _ g, told_rules))
 
-pub returns-in_err-pipe : goal.returns-in_err-pipe
-returns-in_err-pipe c =
+pub returns-in_err-c : goal.returns-in_err-c
+returns-in_err-c c =
     let g = c.in_ok-g.ensures in
-    let pipe = c.in_err-pipe.ensures in
-    stops _ _ _ c.from_residual-in_err-pipe.ensures (unfold hole_c in simp (none_met _ _ g, met_is _ _ pipe, told_rules))
+    let course = c.in_err-c.ensures in
+    stops _ _ _ c.from_residual-in_err-c.ensures (unfold hole_c in simp (none_met _ _ g, met_is _ _ course, told_rules))
 
 pub returns-in_err-s : goal.returns-in_err-s
 returns-in_err-s c =
     let g = c.in_ok-g.ensures in
-    let pipe = c.in_ok-pipe.ensures in
-    let s = simp (← value_is _ _ pipe) at c.in_err-s.ensures in
-    stops _ _ _ c.from_residual-in_err-s.ensures (unfold hole_c in simp (none_met _ _ g, none_met _ _ pipe, met_is _ _ s, told_rules))
+    let course = c.in_ok-c.ensures in
+    let s = simp (← value_is _ _ course) at c.in_err-s.ensures in
+    stops _ _ _ c.from_residual-in_err-s.ensures (unfold hole_c in simp (none_met _ _ g, none_met _ _ course, met_is _ _ s, told_rules))
 
 pub returns : goal.returns
 returns c =
     let g = c.in_ok-g.ensures in
-    let pipe = c.in_ok-pipe.ensures in
-    let s = simp (← value_is _ _ pipe) at c.in_ok-s.ensures in
+    let course = c.in_ok-c.ensures in
+    let s = simp (← value_is _ _ course) at c.in_ok-s.ensures in
     gives _ _
-    (unfold hole_c in simp (none_met _ _ g, none_met _ _ pipe, none_met _ _ s, told_rules))
-    (unfold hole_c in simp (c.facing.ensures, ← value_is _ _ s, ← value_is _ _ pipe, ← value_is _ _ g))
+    (unfold hole_c in simp (none_met _ _ g, none_met _ _ course, none_met _ _ s, told_rules))
+    (unfold hole_c in simp (c.facing.ensures, ← value_is _ _ s, ← value_is _ _ g))

@@ -1,10 +1,10 @@
 use Rattle.piece_normals.specs.Normals.{meet_c}
 use Rattle.piece_normals.proofs.meet_direction.Goals as goal
 
-pub returns-in-Without : goal.returns-in-Without
+pub returns-in-None : goal.returns-in-None
 unfolding meet_c
-returns-in-Without c = simp (c.own_direction.ensures, c.in-Without.is)
+returns-in-None c = simp (c.own_direction.ensures, c.in-None.is)
 
-pub returns-in-Angles : goal.returns-in-Angles
+pub returns-in-Some : goal.returns-in-Some
 unfolding meet_c
-returns-in-Angles c = simp (c.hole_direction.ensures, c.in-Angles.is)
+returns-in-Some c = simp (c.hole_direction.ensures, c.in-Some.is)

@@ -11,14 +11,14 @@ returns-in_err-a c = stops _ _ _ c.from_residual.ensures (simp (normal_refusal, 
 pub returns-in_err-finite3 : goal.returns-in_err-finite3
 returns-in_err-finite3 c =
     let a = c.in_ok-a.ensures in
-    let v = simp (c.cross-2.ensures, c.plus-b.ensures, c.times.ensures, c.times-2.ensures, c.cross.ensures, ← value_is _ _ a) at c.in_err-finite3.ensures in
+    let v = simp (c.cross.ensures, c.moves-b.ensures, ← value_is _ _ a) at c.in_err-finite3.ensures in
     stops _ _ _ c.from_residual-in_err-finite3.ensures
     (simp (normal_refusal, none_met _ _ a, told_rules) (unfold along_c in simp (met_is _ _ v, told_rules)))
 
 pub returns : goal.returns
 returns c =
     let a = c.in_ok-a.ensures in
-    let v = simp (c.cross-2.ensures, c.plus-b.ensures, c.times.ensures, c.times-2.ensures, c.cross.ensures, ← value_is _ _ a) at c.in_ok-finite3.ensures in
+    let v = simp (c.cross.ensures, c.moves-b.ensures, ← value_is _ _ a) at c.in_ok-finite3.ensures in
     let u = simp (← value_is _ _ v) at c.unit.ensures in
     follows _ _ _ _ u
     (simp (normal_refusal, none_met _ _ a, told_rules) (unfold along_c in simp (none_met _ _ v, told_rules)))

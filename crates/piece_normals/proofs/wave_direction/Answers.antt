@@ -27,4 +27,4 @@ returns c =
     let y = simp (← value_is _ _ s, ← value_is _ _ du) at c.in_ok-y.ensures in
     gives _ _
     (unfold wave_c in simp (none_met _ _ du, none_met _ _ s, none_met _ _ y, told_rules))
-    (unfold wave_c in simp (← value_is _ _ y, ← value_is _ _ s, ← value_is _ _ du))
+    (unfold wave_c in simp (← value_is _ _ y, ← value_is _ _ du))

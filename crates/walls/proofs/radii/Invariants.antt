@@ -3,6 +3,6 @@ use Rattle.checked.specs.Loops.{fold_c}
 use Rattle.walls.specs.Walls.{radius_c}
 use Rattle.walls.proofs.radii.Given as goal
 
--- k radii are summed
-abbrev pub invariant-loop-k : goal.invariant-loop-k
-invariant-loop-k l = l.a ≡ (fold_c l.k (radius_c l.v l.p l.d l.radial l.h l.wt) l.fn.s).value
+-- i radii are summed
+abbrev pub invariant-loop-i : goal.invariant-loop-i
+invariant-loop-i l = l.a ≡ (fold_c l.i (radius_c l.v l.k.p l.k.d l.k.radial l.k.h l.k.wt) l.fn.s).value

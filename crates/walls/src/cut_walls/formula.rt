@@ -44,8 +44,7 @@ pub fn over(p: Rolled, r0: f64, r1: f64, o: Vec3, s: Integrals) -> Result<Integr
 {
     let run = run(p)?;
     let n = quadrature_pieces(run)?;
-    let d = p.dev;
-    let strip = strip_of(d.origin, d.axis, d.start, d.neutral, r0, r1, o)?;
+    let strip = strip_of(p.dev, r0, r1, o)?;
     let surface = along(&Wall { strip, run }, n, s.surface)?;
     Ok(Integrals { surface })
 }

@@ -8,4 +8,4 @@ unfolding inners_due
 returns c =
     let a = c.args in
     simp (← c.saturating_sub.ensures)
-    (c.write.ensures (inner_c a.center a.axis a.radius a.from a.cut) (λ k r below given. given ∙ point_is a.center a.axis a.radius a.from a.cut _ k c.rim-rim.ensures))
+    (c.write.ensures (inner_c a.arc.center a.arc.axis a.arc.radius a.from a.cut) (λ k r below given. given ∙ point_is a.arc.center a.arc.axis a.arc.radius a.from a.cut _ k c.rim-rim.ensures))

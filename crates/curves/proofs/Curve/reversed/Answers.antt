@@ -1,11 +1,7 @@
 use Rattle.curves.specs.Entries.{reversed_due}
-use Rattle.checked.specs.ToldLaws.{fails_by, passes}
+use Rattle.checked.specs.ToldLaws.{fails_by}
 use Rattle.curves.proofs.Curve.reversed.Goals as goal
 
 pub returns-in_err-tried : goal.returns-in_err-tried
 unfolding reversed_due
 returns-in_err-tried c = fails_by _ _ _ _ c.from_residual.ensures c.in_err-tried.ensures
-
-pub returns : goal.returns
-unfolding reversed_due
-returns c = passes _ _ _ c.in_ok-tried.ensures c.reversed.ensures

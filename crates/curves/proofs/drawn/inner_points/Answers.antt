@@ -1,9 +1,6 @@
 use Rattle.rows.specs.Rows.{point}
-use Rattle.rows.specs.Laws.{part_stops, part_written, part_within}
+use Rattle.rows.specs.Laws.{part_written, part_within}
 use Rattle.curves.proofs.drawn.inner_points.Goals as goal
-
-pub returns-in_err-n : goal.returns-in_err-n
-returns-in_err-n c = part_stops _ _ _ _ _ c.from_residual.ensures c.in_err-n.ensures
 
 pub slice_bounds-result-end : goal.slice_bounds-result-end
 slice_bounds-result-end c = part_within point _ _ _ _ c.in_ok-n.ensures

@@ -10,5 +10,5 @@ returns-in_err-x c = stops _ _ _ c.from_residual.ensures (simp (along_refusal, m
 pub returns : goal.returns
 returns c =
     let x = c.in_ok-x.ensures in
-    let v = simp (c.times.ensures, c.times-2.ensures, c.cross.ensures, ← value_is _ _ x) at c.plus.ensures in
+    let v = simp (← value_is _ _ x) at c.moves.ensures in
     follows _ _ _ _ c.finite3.ensures (simp (along_refusal, none_met _ _ x, v, told_rules) (unfold along_c in refl)) (unfold along_c in simp v)

@@ -2,13 +2,13 @@ use Rattle.c_arrays.specs.Laws.{known_none, known_some}
 use Rattle.c_arrays.specs.Records.{stored}
 use Rattle.exports.proofs.of_pieces.jr_piece_chords.Goals as goal
 
-pub returns-in-Some : goal.returns-in-Some
-returns-in-Some c =
+pub returns : goal.returns
+returns c =
     let read = known_some _ _ _ _ c.piece_of.ensures c.in-Some.is in
     simp (read.0, read.1) (simp c.chords.ensures at c.store.ensures)
 
-pub returns-in-None : goal.returns-in-None
+pub returns-in_default : goal.returns-in_default
 unfolding stored
-returns-in-None c =
-    let unread = known_none _ _ _ c.piece_of.ensures c.in-None.is in
+returns-in_default c =
+    let unread = known_none _ _ _ c.piece_of.ensures c.in_default.is in
     record { number = simp unread; out = simp unread }

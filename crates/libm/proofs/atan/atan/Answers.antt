@@ -1,12 +1,8 @@
-use Rattle.checked.specs.PatternLaws.{no}
 use Rattle.libm.specs.AtanLaws.{atan_nan}
 use Rattle.libm.specs.Atan.{atan}
 use borrow.Author.Tests.{lt-ltb, le-ltb, le-leb, lt-leb}
 use mathlib.Core.Path.{sym, ◌∙◌}
 use Rattle.libm.proofs.atan.atan.Goals as goal
-
-pub fabs_number-requires : goal.fabs_number-requires
-fabs_number-requires c = no (sym c.is_nan.ensures ∙ c.if-is_nan.false)
 
 pub returns-then-is_nan : goal.returns-then-is_nan
 returns-then-is_nan c = atan_nan _ (sym c.is_nan.ensures ∙ c.if-is_nan.true)

@@ -1,29 +1,22 @@
-use lib.Dec.{T}
-use Rattle.checked.specs.PatternLaws.{no}
+use Rattle.checked.specs.PatternLaws.{yes}
 use Rattle.float_bits.specs.Laws.{high_word_fabs, signed_fabs, fabs_twice, fabs_nan}
 use Rattle.libm.specs.AtanLaws.{atan_nan_size}
 use Rattle.libm.specs.Atan.{atan}
 use borrow.Author.Tests.{lt-ltb, le-ltb, le-leb, lt-leb}
-use mathlib.Core.Path.{sym, ◌∙◌, subst}
+use mathlib.Core.Path.{sym, ◌∙◌}
 use Rattle.libm.proofs.atan.atan_size.Goals as goal
-
-pub fabs_number-requires : goal.fabs_number-requires
-fabs_number-requires c = no (sym c.is_nan.ensures ∙ c.if-is_nan.false)
-
-pub fabs_number-requires-else-ix-lt1071382528 : goal.fabs_number-requires-else-ix-lt1071382528
-fabs_number-requires-else-ix-lt1071382528 c = no (sym c.is_nan.ensures ∙ c.if-is_nan.false)
 
 pub returns-then-is_nan : goal.returns-then-is_nan
 returns-then-is_nan c = atan_nan_size _ (sym c.is_nan.ensures ∙ c.if-is_nan.true)
 
 pub returns-then-ix-ge1141899264 : goal.returns-then-ix-ge1141899264
 unfolding atan
-returns-then-ix-ge1141899264 c = simp (high_word_fabs c.args.x ((subst T (sym c.well_formed.0.1) tt)), signed_fabs c.args.x ((subst T (sym c.well_formed.0.1) tt)), fabs_twice, fabs_nan, le-leb _ _ c.if-ix-ge1141899264.true, ← c.high_word-ix.ensures, sym c.is_nan.ensures ∙ c.if-is_nan.false)
+returns-then-ix-ge1141899264 c = simp (high_word_fabs c.args.x (yes c.well_formed.0.1), signed_fabs c.args.x (yes c.well_formed.0.1), fabs_twice, fabs_nan, le-leb _ _ c.if-ix-ge1141899264.true, ← c.high_word-ix.ensures, sym c.is_nan.ensures ∙ c.if-is_nan.false)
 
 pub returns-then-ix-lt1071382528 : goal.returns-then-ix-lt1071382528
 unfolding atan
-returns-then-ix-lt1071382528 c = simp (high_word_fabs c.args.x ((subst T (sym c.well_formed.0.1) tt)), signed_fabs c.args.x ((subst T (sym c.well_formed.0.1) tt)), fabs_twice, fabs_nan, c.atan_small.ensures, c.fabs_number.ensures, lt-ltb _ _ c.if-ix-lt1071382528.true, lt-leb _ _ c.if-ix-ge1141899264.false, ← c.high_word-ix.ensures, sym c.is_nan.ensures ∙ c.if-is_nan.false)
+returns-then-ix-lt1071382528 c = simp (high_word_fabs c.args.x (yes c.well_formed.0.1), signed_fabs c.args.x (yes c.well_formed.0.1), fabs_twice, fabs_nan, c.atan_small.ensures, c.fabs_number.ensures, lt-ltb _ _ c.if-ix-lt1071382528.true, lt-leb _ _ c.if-ix-ge1141899264.false, ← c.high_word-ix.ensures, sym c.is_nan.ensures ∙ c.if-is_nan.false)
 
 pub returns-else-ix-lt1071382528 : goal.returns-else-ix-lt1071382528
 unfolding atan
-returns-else-ix-lt1071382528 c = simp (high_word_fabs c.args.x ((subst T (sym c.well_formed.0.1) tt)), signed_fabs c.args.x ((subst T (sym c.well_formed.0.1) tt)), fabs_twice, fabs_nan, c.folded.ensures, c.reduction.ensures, c.fabs_number-else-ix-lt1071382528.ensures, le-ltb _ _ c.if-ix-lt1071382528.false, lt-leb _ _ c.if-ix-ge1141899264.false, ← c.high_word-ix.ensures, sym c.is_nan.ensures ∙ c.if-is_nan.false)
+returns-else-ix-lt1071382528 c = simp (high_word_fabs c.args.x (yes c.well_formed.0.1), signed_fabs c.args.x (yes c.well_formed.0.1), fabs_twice, fabs_nan, c.folded.ensures, c.reduction.ensures, c.fabs_number-else-ix-lt1071382528.ensures, le-ltb _ _ c.if-ix-lt1071382528.false, lt-leb _ _ c.if-ix-ge1141899264.false, ← c.high_word-ix.ensures, sym c.is_nan.ensures ∙ c.if-is_nan.false)

@@ -1,19 +1,19 @@
 use native.Mathlib.Omega.{arith}
-use lib.Dec.{T}
+use Rattle.checked.specs.PatternLaws.{yes}
 use Rattle.float_bits.specs.Laws.{sign_most}
 use Rattle.libm.specs.Atan2.{angle}
 use borrow.Author.Tests.{eq-eqb, ne_eqb}
-use mathlib.Core.Path.{sym, ◌∙◌, subst}
+use mathlib.Core.Path.{sym, ◌∙◌}
 use Rattle.libm.proofs.atan2.angle.Goals as goal
 
 pub overflow_mul-m : goal.overflow_mul-m
-overflow_mul-m c = omega (arith, c.sign.ensures, sign_most c.args.x ((subst T (sym c.well_formed.1.0.1) tt)))
+overflow_mul-m c = omega (arith, c.sign.ensures, sign_most c.args.x (yes c.well_formed.1.0.1))
 
 pub overflow_add-m : goal.overflow_add-m
-overflow_add-m c = omega (arith, c.sign-2.ensures, c.sign.ensures, sign_most c.args.x ((subst T (sym c.well_formed.1.0.1) tt)), sign_most c.args.y ((subst T (sym c.well_formed.0.1) tt)))
+overflow_add-m c = omega (arith, c.sign-2.ensures, c.sign.ensures, sign_most c.args.x (yes c.well_formed.1.0.1), sign_most c.args.y (yes c.well_formed.0.1))
 
 pub in_quadrant-requires : goal.in_quadrant-requires
-in_quadrant-requires c = omega (arith, c.sign-2.ensures, c.sign.ensures, sign_most c.args.x ((subst T (sym c.well_formed.1.0.1) tt)), sign_most c.args.y ((subst T (sym c.well_formed.0.1) tt)))
+in_quadrant-requires c = omega (arith, c.sign-2.ensures, c.sign.ensures, sign_most c.args.x (yes c.well_formed.1.0.1), sign_most c.args.y (yes c.well_formed.0.1))
 
 pub returns-then-is_one : goal.returns-then-is_one
 unfolding angle

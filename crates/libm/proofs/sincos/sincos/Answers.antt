@@ -1,18 +1,14 @@
-use Rattle.checked.specs.PatternLaws.{yes}
 use Rattle.checked.specs.ToldLaws.{stops, gives}
 use Rattle.libm.specs.Sincos.{sines_or_zeros}
 use Rattle.libm.specs.SincosLaws.{meets_none, within_where_none}
 use mathlib.Core.Path.{sym}
 use Rattle.libm.proofs.sincos.sincos.Goals as goal
 
-pub both_sines-requires : goal.both_sines-requires
-both_sines-requires c = yes (within_where_none _ c.in_ok-require_angle.ensures)
-
-pub returns-in_err-require_angle : goal.returns-in_err-require_angle
-returns-in_err-require_angle c = stops _ _ _ c.from_residual.ensures (sym c.in_err-require_angle.ensures)
+pub returns-in_err-angle : goal.returns-in_err-angle
+returns-in_err-angle c = stops _ _ _ c.from_residual.ensures (sym c.in_err-angle.ensures.refusal)
 
 pub returns : goal.returns
 unfolding sines_or_zeros
 returns c =
-    let is = within_where_none _ c.in_ok-require_angle.ensures in
-    gives _ _ (meets_none _ is) (simp (is, c.both_sines.ensures))
+    let is = within_where_none _ c.in_ok-angle.ensures.refusal in
+    gives _ _ (meets_none _ is) (simp (is, c.both_sines.ensures, c.in_ok-angle.ensures.angle))

@@ -1,20 +1,20 @@
+use Rattle.std.proofs.Common.{rules}
 use Rattle.float_bits.specs.FloatBits.{choose}
 use Rattle.libm.specs.Sincos.{turned_sine}
-use borrow.Author.Tests.{eq-eqb, ne_eqb}
 use Rattle.libm.proofs.sincos.turned_sine.Goals as goal
 
-pub returns-then-r-eq0 : goal.returns-then-r-eq0
+pub returns-in-0 : goal.returns-in-0
 unfolding turned_sine choose
-returns-then-r-eq0 c = simp (c.k_sin.ensures, eq-eqb _ _ c.if-r-eq0.true)
+returns-in-0 c = simp (c.k_sin.ensures, c.in-0.is)
 
-pub returns-then-r-eq1 : goal.returns-then-r-eq1
+pub returns-in-1 : goal.returns-in-1
 unfolding turned_sine choose
-returns-then-r-eq1 c = simp (c.k_cos.ensures, eq-eqb _ _ c.if-r-eq1.true, ne_eqb _ _ c.if-r-eq0.false)
+returns-in-1 c = simp (c.k_cos.ensures, c.in-1.is)
 
-pub returns-then-r-eq2 : goal.returns-then-r-eq2
+pub returns-in-2 : goal.returns-in-2
 unfolding turned_sine choose
-returns-then-r-eq2 c = simp (c.k_sin-then-r-eq2.ensures, eq-eqb _ _ c.if-r-eq2.true, ne_eqb _ _ c.if-r-eq1.false, ne_eqb _ _ c.if-r-eq0.false)
+returns-in-2 c = simp (c.k_sin-in-2.ensures, c.in-2.is)
 
-pub returns-else-r-eq2 : goal.returns-else-r-eq2
+pub returns-in_default : goal.returns-in_default
 unfolding turned_sine choose
-returns-else-r-eq2 c = simp (c.k_cos-else-r-eq2.ensures, ne_eqb _ _ c.if-r-eq2.false, ne_eqb _ _ c.if-r-eq1.false, ne_eqb _ _ c.if-r-eq0.false)
+returns-in_default c = search rules

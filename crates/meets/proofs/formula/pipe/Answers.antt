@@ -1,10 +1,10 @@
 use Rattle.meets.specs.Meets.{pipe_c}
 use Rattle.meets.proofs.formula.pipe.Goals as goal
 
-pub returns-in-Without : goal.returns-in-Without
+pub returns-in-None : goal.returns-in-None
 unfolding pipe_c
-returns-in-Without c = simp (c.own_pipe.ensures, c.in-Without.is)
+returns-in-None c = simp (c.own_pipe.ensures, c.in-None.is)
 
-pub returns-in-Angles : goal.returns-in-Angles
+pub returns-in-Some : goal.returns-in-Some
 unfolding pipe_c
-returns-in-Angles c = simp (c.other_pipe.ensures, c.in-Angles.is)
+returns-in-Some c = simp (c.other_pipe.ensures, c.in-Some.is)

@@ -7,9 +7,6 @@ pub returns-in_err-s : goal.returns-in_err-s
 unfolding box_c
 returns-in_err-s c = stops _ _ _ c.from_residual.ensures (simp (met_is _ _ c.in_err-s.ensures.ends, told_rules))
 
-pub spanned-requires : goal.spanned-requires
-spanned-requires c = c.in_ok-s.ensures.stored
-
 pub returns : goal.returns
 unfolding box_c
 returns c =

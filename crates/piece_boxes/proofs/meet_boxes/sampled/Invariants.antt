@@ -9,7 +9,6 @@ use Rattle.piece_boxes.proofs.meet_boxes.sampled.Given as goal
 -- k samples are worked out and stored
 abbrev pub invariant-loop-k : goal.invariant-loop-k
 invariant-loop-k l =
-    (length l.u ≡ 65)
-    × (length l.v ≡ 65)
+    (length l.slopes ≡ 65)
     × (due l.ends ≡ answered (fold_c l.k (step_c l.c) empty))
-    × Stored l.c l.k l.u l.v
+    × Stored l.c l.k l.slopes

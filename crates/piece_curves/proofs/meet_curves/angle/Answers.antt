@@ -1,10 +1,10 @@
 use Rattle.piece_curves.specs.MeetCurves.{angle_c}
 use Rattle.piece_curves.proofs.meet_curves.angle.Goals as goal
 
-pub returns-in-Without : goal.returns-in-Without
+pub returns-in-None : goal.returns-in-None
 unfolding angle_c
-returns-in-Without c = simp c.in-Without.is
+returns-in-None c = simp c.in-None.is
 
-pub returns-in-Angles : goal.returns-in-Angles
+pub returns-in-Some : goal.returns-in-Some
 unfolding angle_c
-returns-in-Angles c = simp c.in-Angles.is
+returns-in-Some c = simp c.in-Some.is

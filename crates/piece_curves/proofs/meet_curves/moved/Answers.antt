@@ -32,7 +32,7 @@ pub returns-in-Err-and-clause-u : goal.returns-in-Err-and-clause-u
 returns-in-Err-and-clause-u c =
     let h = simp (← c.and.ensures, c.in-Ok.is, c.angle-phi.ensures) at (and_told _ _ _ _ c.finite.ensures c.intersect.ensures) in
     let s = simp (← c.and-in-Ok.ensures, c.in-Err-and.is, c.rate-k.ensures, ← value_is _ _ h) at (and_told _ _ _ _ c.finite-in-Ok.ensures c.speed_at.ensures) in
-    simp (around_met, intersection_at_refusal, none_met _ _ h, ← first_assoc, first_zero, met_is _ _ s, told_rules)
+    simp (around_met, intersection_at_refusal, none_met _ _ h, ← first_assoc, met_is _ _ s, told_rules)
 
 pub returns-in-Err-and-clause-v : goal.returns-in-Err-and-clause-v
 returns-in-Err-and-clause-v c =
@@ -53,7 +53,7 @@ returns-in-Ok-and-clause-u c =
     let q = simp (c.times.ensures, ← value_is _ _ h) at c.plus-q.ensures in
     let u = simp (← c.and-in-Ok-and.ensures, q, ← value_is _ _ s, c.rate-k.ensures) at (and_told _ _ _ _ c.finite-in-Ok-and.ensures c.finite-in-Ok-and-2.ensures) in
     follows _ _ _ _ u
-    (simp (around_met, intersection_at_refusal, none_met _ _ h, ← first_assoc, first_zero, none_met _ _ s, told_rules) (unfold around_c plus_c times_c in refl))
+    (simp (around_met, intersection_at_refusal, none_met _ _ h, ← first_assoc, none_met _ _ s, told_rules) (unfold around_c plus_c times_c in refl))
     (unfold around_c plus_c times_c in refl)
 
 pub returns-in-Ok-and-clause-v : goal.returns-in-Ok-and-clause-v

@@ -3,26 +3,26 @@ use Rattle.checked.specs.ToldLaws.{stops, gives, none_met, value_is, met_is, rul
 use Rattle.piece_curves.specs.MeetCurvesLaws.{near_nine}
 use Rattle.piece_curves.proofs.meet_curves.placed.Goals as goal
 
-pub returns-in_err-z-in-Without : goal.returns-in_err-z-in-Without
+pub returns-in_err-z-in-None : goal.returns-in_err-z-in-None
 unfolding placed_c
-returns-in_err-z-in-Without c = simp c.in-Without.is (stops _ _ _ c.from_residual.ensures (simp (met_is _ _ c.in_err-z-in-Without.ensures, told_rules)))
+returns-in_err-z-in-None c = simp c.in-None.is (stops _ _ _ c.from_residual.ensures (simp (met_is _ _ c.in_err-z-in-None.ensures, told_rules)))
 
-pub returns-in_err-finite3-in-Angles : goal.returns-in_err-finite3-in-Angles
+pub returns-in_err-finite3-in-Some : goal.returns-in_err-finite3-in-Some
 unfolding placed_c
-returns-in_err-finite3-in-Angles c = simp c.in-Angles.is (stops _ _ _ c.from_residual-in_err-finite3-in-Angles.ensures (simp (met_is _ _ c.in_err-finite3-in-Angles.ensures, told_rules)))
+returns-in_err-finite3-in-Some c = simp c.in-Some.is (stops _ _ _ c.from_residual-in_err-finite3-in-Some.ensures (simp (met_is _ _ c.in_err-finite3-in-Some.ensures, told_rules)))
 
-pub returns-in_err-u-in-Angles : goal.returns-in_err-u-in-Angles
+pub returns-in_err-u-in-Some : goal.returns-in_err-u-in-Some
 unfolding placed_c
-returns-in_err-u-in-Angles c =
-    let u = simp c.near.ensures at c.in_err-u-in-Angles.ensures in
-    simp c.in-Angles.is (stops _ _ _ c.from_residual-in_err-u-in-Angles.ensures (simp (near_nine, none_met _ _ c.in_ok-finite3-in-Angles.ensures, met_is _ _ u, told_rules)))
+returns-in_err-u-in-Some c =
+    let u = simp c.near.ensures at c.in_err-u-in-Some.ensures in
+    simp c.in-Some.is (stops _ _ _ c.from_residual-in_err-u-in-Some.ensures (simp (near_nine, none_met _ _ c.in_ok-finite3-in-Some.ensures, met_is _ _ u, told_rules)))
 
-pub returns-in_ok-z-in-Without : goal.returns-in_ok-z-in-Without
+pub returns-in_ok-z-in-None : goal.returns-in_ok-z-in-None
 unfolding placed_c
-returns-in_ok-z-in-Without c = simp c.in-Without.is (gives _ _ (simp (none_met _ _ c.in_ok-z-in-Without.ensures, told_rules)) (simp (value_is _ _ c.in_ok-z-in-Without.ensures)))
+returns-in_ok-z-in-None c = simp c.in-None.is (gives _ _ (simp (none_met _ _ c.in_ok-z-in-None.ensures, told_rules)) (simp (value_is _ _ c.in_ok-z-in-None.ensures)))
 
-pub returns-in_ok-u-in-Angles : goal.returns-in_ok-u-in-Angles
+pub returns-in_ok-u-in-Some : goal.returns-in_ok-u-in-Some
 unfolding placed_c
-returns-in_ok-u-in-Angles c =
-    let u = simp c.near.ensures at c.in_ok-u-in-Angles.ensures in
-    simp c.in-Angles.is (gives _ _ (simp (near_nine, none_met _ _ c.in_ok-finite3-in-Angles.ensures, none_met _ _ u, told_rules)) (simp (value_is _ _ u)))
+returns-in_ok-u-in-Some c =
+    let u = simp c.near.ensures at c.in_ok-u-in-Some.ensures in
+    simp c.in-Some.is (gives _ _ (simp (near_nine, none_met _ _ c.in_ok-finite3-in-Some.ensures, none_met _ _ u, told_rules)) (simp (value_is _ _ u)))

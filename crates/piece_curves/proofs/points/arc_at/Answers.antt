@@ -47,4 +47,4 @@ returns c =
     let dy = simp (← value_is _ _ w) at c.in_ok-dy.ensures in
     gives _ _
     (simp arc_refusal (unfold arc_c in simp (none_met _ _ w, none_met _ _ x, none_met _ _ y, none_met _ _ dx, none_met _ _ dy, told_rules)))
-    (unfold arc_c in simp (← value_is _ _ dy, ← value_is _ _ dx, ← value_is _ _ y, ← value_is _ _ x, ← value_is _ _ w))
+    (unfold arc_c in simp (← value_is _ _ dy, ← value_is _ _ dx, ← value_is _ _ y, ← value_is _ _ x))

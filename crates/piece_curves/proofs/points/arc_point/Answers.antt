@@ -28,4 +28,4 @@ returns c =
     let y = simp (← value_is _ _ w) at c.in_ok-y.ensures in
     gives _ _
     (simp arc_point_refusal (unfold arc_point_c in simp (none_met _ _ w, none_met _ _ x, none_met _ _ y, told_rules)))
-    (unfold arc_point_c in simp (← value_is _ _ y, ← value_is _ _ x, ← value_is _ _ w))
+    (unfold arc_point_c in simp (← value_is _ _ y, ← value_is _ _ x))

@@ -16,5 +16,5 @@ returns-in_err-v c =
 pub returns : goal.returns
 returns c =
     gives _ _
-    (simp wave_place_refusal (unfold wave_c in simp (value_is _ _ c.in_ok-u.ensures, tried _ _ c.in_ok-u.ensures, value_is _ _ c.in_ok-v.ensures, none_met _ _ c.in_ok-v.ensures, told_rules)))
+    (simp wave_place_refusal (unfold wave_c in simp (value_is _ _ c.in_ok-u.ensures, tried _ _ c.in_ok-u.ensures, none_met _ _ c.in_ok-v.ensures, told_rules)))
     (unfold wave_c in simp (value_is _ _ c.in_ok-u.ensures, value_is _ _ c.in_ok-v.ensures))

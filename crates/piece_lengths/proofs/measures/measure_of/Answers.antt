@@ -15,7 +15,7 @@ unfolding measure_c
 returns-in-Arc c = simp c.in-Arc.is c.arc_measure.ensures
 
 pub returns-in-Wave : goal.returns-in-Wave
-returns-in-Wave c = c.traced.ensures (wave_run c.args.r.from c.args.r.to c.args.r.neutral c.in-Wave.w) (λ k p l h. search rules) ∙ ap (λ (q : Checked Measure). answered q) (wave_known c.args.r _ c.in-Wave.is)
+returns-in-Wave c = c.traced.ensures (wave_run c.args.r.ends.from c.args.r.ends.to c.args.r.ends.neutral c.in-Wave.w) (λ k p l h. search rules) ∙ ap (λ (q : Checked Measure). answered q) (wave_known c.args.r _ c.in-Wave.is)
 
 pub returns-in-Meet : goal.returns-in-Meet
 returns-in-Meet c = c.traced-in-Meet.ensures (followed c.in-Meet.c) (λ k p l h. search rules) ∙ ap (λ (q : Checked Measure). answered q) (meet_known c.args.r _ c.in-Meet.is)

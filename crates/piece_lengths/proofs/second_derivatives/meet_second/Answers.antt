@@ -39,74 +39,74 @@ returns-in_err-e c =
     let e = simp (← value_is _ _ h, ← value_is _ _ s) at c.in_err-e.ensures in
     stops _ _ _ c.from_residual-in_err-e.ensures (simp (meet_refusal, none_met _ _ k, none_met _ _ phi, none_met _ _ h, none_met _ _ s, met_is _ _ e, told_rules))
 
-pub returns-in_err-y-in-Without : goal.returns-in_err-y-in-Without
-returns-in_err-y-in-Without c =
+pub returns-in_err-y-in-None : goal.returns-in_err-y-in-None
+returns-in_err-y-in-None c =
     let k = simp c.rate.ensures at c.in_ok-k.ensures in
     let phi = simp c.angle.ensures at c.in_ok-phi.ensures in
     let h = simp (← value_is _ _ phi) at c.in_ok-h.ensures in
     let s = simp (← value_is _ _ h) at c.in_ok-s.ensures in
     let e = simp (← value_is _ _ h, ← value_is _ _ s) at c.in_ok-e.ensures in
-    let y = simp (← value_is _ _ k, ← value_is _ _ e) at c.in_err-y-in-Without.ensures in
-    stops _ _ _ c.from_residual-in_err-y-in-Without.ensures (simp (meet_refusal, c.in-Without.is, none_met _ _ k, none_met _ _ phi, none_met _ _ h, none_met _ _ s, none_met _ _ e, told_rules) (unfold bend_v_c height_bend_c in met_is _ _ y))
+    let y = simp (← value_is _ _ k, ← value_is _ _ e) at c.in_err-y-in-None.ensures in
+    stops _ _ _ c.from_residual-in_err-y-in-None.ensures (simp (meet_refusal, c.in-None.is, none_met _ _ k, none_met _ _ phi, none_met _ _ h, none_met _ _ s, none_met _ _ e, told_rules) (unfold bend_v_c height_bend_c in met_is _ _ y))
 
-pub returns-in_ok-y-in-Without : goal.returns-in_ok-y-in-Without
-returns-in_ok-y-in-Without c =
+pub returns-in_ok-y-in-None : goal.returns-in_ok-y-in-None
+returns-in_ok-y-in-None c =
     let k = simp c.rate.ensures at c.in_ok-k.ensures in
     let phi = simp c.angle.ensures at c.in_ok-phi.ensures in
     let h = simp (← value_is _ _ phi) at c.in_ok-h.ensures in
     let s = simp (← value_is _ _ h) at c.in_ok-s.ensures in
     let e = simp (← value_is _ _ h, ← value_is _ _ s) at c.in_ok-e.ensures in
-    let y = simp (← value_is _ _ k, ← value_is _ _ e) at c.in_ok-y-in-Without.ensures in
+    let y = simp (← value_is _ _ k, ← value_is _ _ e) at c.in_ok-y-in-None.ensures in
     gives _ _
-    (simp (meet_refusal, c.in-Without.is, none_met _ _ k, none_met _ _ phi, none_met _ _ h, none_met _ _ s, none_met _ _ e, told_rules) (unfold bend_v_c height_bend_c in none_met _ _ y))
-    (unfold meet_c bend_v_c height_bend_c in simp (c.in-Without.is, value_is _ _ y))
+    (simp (meet_refusal, c.in-None.is, none_met _ _ k, none_met _ _ phi, none_met _ _ h, none_met _ _ s, none_met _ _ e, told_rules) (unfold bend_v_c height_bend_c in none_met _ _ y))
+    (unfold meet_c bend_v_c height_bend_c in simp (c.in-None.is, value_is _ _ y))
 
-pub returns-in_err-bend-in-Angles : goal.returns-in_err-bend-in-Angles
-returns-in_err-bend-in-Angles c =
+pub returns-in_err-bend-in-Some : goal.returns-in_err-bend-in-Some
+returns-in_err-bend-in-Some c =
     let k = simp c.rate.ensures at c.in_ok-k.ensures in
     let phi = simp c.angle.ensures at c.in_ok-phi.ensures in
     let h = simp (← value_is _ _ phi) at c.in_ok-h.ensures in
     let s = simp (← value_is _ _ h) at c.in_ok-s.ensures in
     let e = simp (← value_is _ _ h, ← value_is _ _ s) at c.in_ok-e.ensures in
-    let bend = simp (c.level-q.ensures, c.level-q1.ensures, c.level-q2.ensures, ← value_is _ _ h, ← value_is _ _ s, ← value_is _ _ e) at c.in_err-bend-in-Angles.ensures in
-    stops _ _ _ c.from_residual-in_err-bend-in-Angles.ensures
-    (simp (meet_refusal, c.in-Angles.is, first_assoc, none_met _ _ k, none_met _ _ phi, none_met _ _ h, none_met _ _ s, none_met _ _ e, told_rules) (unfold level_at_c level_slope_c level_bend_c bend_u_c bend_v_c height_bend_c in simp (met_is _ _ bend, told_rules)))
+    let bend = simp (c.level-q.ensures, c.level-q1.ensures, c.level-q2.ensures, ← value_is _ _ h, ← value_is _ _ s, ← value_is _ _ e) at c.in_err-bend-in-Some.ensures in
+    stops _ _ _ c.from_residual-in_err-bend-in-Some.ensures
+    (simp (meet_refusal, c.in-Some.is, first_assoc, none_met _ _ k, none_met _ _ phi, none_met _ _ h, none_met _ _ s, none_met _ _ e, told_rules) (unfold level_at_c level_slope_c level_bend_c bend_u_c bend_v_c height_bend_c in simp (met_is _ _ bend, told_rules)))
 
-pub returns-in_err-x-in-Angles : goal.returns-in_err-x-in-Angles
-returns-in_err-x-in-Angles c =
+pub returns-in_err-x-in-Some : goal.returns-in_err-x-in-Some
+returns-in_err-x-in-Some c =
     let k = simp c.rate.ensures at c.in_ok-k.ensures in
     let phi = simp c.angle.ensures at c.in_ok-phi.ensures in
     let h = simp (← value_is _ _ phi) at c.in_ok-h.ensures in
     let s = simp (← value_is _ _ h) at c.in_ok-s.ensures in
     let e = simp (← value_is _ _ h, ← value_is _ _ s) at c.in_ok-e.ensures in
-    let bend = simp (c.level-q.ensures, c.level-q1.ensures, c.level-q2.ensures, ← value_is _ _ h, ← value_is _ _ s, ← value_is _ _ e) at c.in_ok-bend-in-Angles.ensures in
-    let x = simp (← value_is _ _ bend, ← value_is _ _ k) at c.in_err-x-in-Angles.ensures in
-    stops _ _ _ c.from_residual-in_err-x-in-Angles.ensures
-    (simp (meet_refusal, c.in-Angles.is, first_assoc, none_met _ _ k, none_met _ _ phi, none_met _ _ h, none_met _ _ s, none_met _ _ e, told_rules) (unfold level_at_c level_slope_c level_bend_c bend_u_c bend_v_c height_bend_c in simp (none_met _ _ bend, met_is _ _ x, told_rules)))
+    let bend = simp (c.level-q.ensures, c.level-q1.ensures, c.level-q2.ensures, ← value_is _ _ h, ← value_is _ _ s, ← value_is _ _ e) at c.in_ok-bend-in-Some.ensures in
+    let x = simp (← value_is _ _ bend, ← value_is _ _ k) at c.in_err-x-in-Some.ensures in
+    stops _ _ _ c.from_residual-in_err-x-in-Some.ensures
+    (simp (meet_refusal, c.in-Some.is, first_assoc, none_met _ _ k, none_met _ _ phi, none_met _ _ h, none_met _ _ s, none_met _ _ e, told_rules) (unfold level_at_c level_slope_c level_bend_c bend_u_c bend_v_c height_bend_c in simp (none_met _ _ bend, met_is _ _ x, told_rules)))
 
-pub returns-in_err-y-in-Angles : goal.returns-in_err-y-in-Angles
-returns-in_err-y-in-Angles c =
+pub returns-in_err-y-in-Some : goal.returns-in_err-y-in-Some
+returns-in_err-y-in-Some c =
     let k = simp c.rate.ensures at c.in_ok-k.ensures in
     let phi = simp c.angle.ensures at c.in_ok-phi.ensures in
     let h = simp (← value_is _ _ phi) at c.in_ok-h.ensures in
     let s = simp (← value_is _ _ h) at c.in_ok-s.ensures in
     let e = simp (← value_is _ _ h, ← value_is _ _ s) at c.in_ok-e.ensures in
-    let bend = simp (c.level-q.ensures, c.level-q1.ensures, c.level-q2.ensures, ← value_is _ _ h, ← value_is _ _ s, ← value_is _ _ e) at c.in_ok-bend-in-Angles.ensures in
-    let x = simp (← value_is _ _ bend, ← value_is _ _ k) at c.in_ok-x-in-Angles.ensures in
-    let y = simp (← value_is _ _ k, ← value_is _ _ e) at c.in_err-y-in-Angles.ensures in
-    stops _ _ _ c.from_residual-in_err-y-in-Angles.ensures
-    (simp (meet_refusal, c.in-Angles.is, first_assoc, none_met _ _ k, none_met _ _ phi, none_met _ _ h, none_met _ _ s, none_met _ _ e, told_rules) (unfold level_at_c level_slope_c level_bend_c bend_u_c bend_v_c height_bend_c in simp (none_met _ _ bend, none_met _ _ x, met_is _ _ y, told_rules)))
+    let bend = simp (c.level-q.ensures, c.level-q1.ensures, c.level-q2.ensures, ← value_is _ _ h, ← value_is _ _ s, ← value_is _ _ e) at c.in_ok-bend-in-Some.ensures in
+    let x = simp (← value_is _ _ bend, ← value_is _ _ k) at c.in_ok-x-in-Some.ensures in
+    let y = simp (← value_is _ _ k, ← value_is _ _ e) at c.in_err-y-in-Some.ensures in
+    stops _ _ _ c.from_residual-in_err-y-in-Some.ensures
+    (simp (meet_refusal, c.in-Some.is, first_assoc, none_met _ _ k, none_met _ _ phi, none_met _ _ h, none_met _ _ s, none_met _ _ e, told_rules) (unfold level_at_c level_slope_c level_bend_c bend_u_c bend_v_c height_bend_c in simp (none_met _ _ bend, none_met _ _ x, met_is _ _ y, told_rules)))
 
-pub returns-in_ok-y-in-Angles : goal.returns-in_ok-y-in-Angles
-returns-in_ok-y-in-Angles c =
+pub returns-in_ok-y-in-Some : goal.returns-in_ok-y-in-Some
+returns-in_ok-y-in-Some c =
     let k = simp c.rate.ensures at c.in_ok-k.ensures in
     let phi = simp c.angle.ensures at c.in_ok-phi.ensures in
     let h = simp (← value_is _ _ phi) at c.in_ok-h.ensures in
     let s = simp (← value_is _ _ h) at c.in_ok-s.ensures in
     let e = simp (← value_is _ _ h, ← value_is _ _ s) at c.in_ok-e.ensures in
-    let bend = simp (c.level-q.ensures, c.level-q1.ensures, c.level-q2.ensures, ← value_is _ _ h, ← value_is _ _ s, ← value_is _ _ e) at c.in_ok-bend-in-Angles.ensures in
-    let x = simp (← value_is _ _ bend, ← value_is _ _ k) at c.in_ok-x-in-Angles.ensures in
-    let y = simp (← value_is _ _ k, ← value_is _ _ e) at c.in_ok-y-in-Angles.ensures in
+    let bend = simp (c.level-q.ensures, c.level-q1.ensures, c.level-q2.ensures, ← value_is _ _ h, ← value_is _ _ s, ← value_is _ _ e) at c.in_ok-bend-in-Some.ensures in
+    let x = simp (← value_is _ _ bend, ← value_is _ _ k) at c.in_ok-x-in-Some.ensures in
+    let y = simp (← value_is _ _ k, ← value_is _ _ e) at c.in_ok-y-in-Some.ensures in
     gives _ _
-    (simp (meet_refusal, c.in-Angles.is, first_assoc, none_met _ _ k, none_met _ _ phi, none_met _ _ h, none_met _ _ s, none_met _ _ e, told_rules) (unfold level_at_c level_slope_c level_bend_c bend_u_c bend_v_c height_bend_c in simp (none_met _ _ bend, none_met _ _ x, none_met _ _ y, told_rules)))
-    (unfold meet_c level_at_c level_slope_c level_bend_c bend_u_c bend_v_c height_bend_c in simp (c.in-Angles.is, value_is _ _ x, value_is _ _ y))
+    (simp (meet_refusal, c.in-Some.is, first_assoc, none_met _ _ k, none_met _ _ phi, none_met _ _ h, none_met _ _ s, none_met _ _ e, told_rules) (unfold level_at_c level_slope_c level_bend_c bend_u_c bend_v_c height_bend_c in simp (none_met _ _ bend, none_met _ _ x, none_met _ _ y, told_rules)))
+    (unfold meet_c level_at_c level_slope_c level_bend_c bend_u_c bend_v_c height_bend_c in simp (c.in-Some.is, value_is _ _ x, value_is _ _ y))

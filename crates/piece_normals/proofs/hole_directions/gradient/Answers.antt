@@ -37,4 +37,4 @@ returns c =
     let g = simp (c.dot.ensures, c.times.ensures, c.across-w.ensures, c.minus.ensures, ← value_is _ _ x, ← value_is _ _ y, ← value_is _ _ t) at c.in_ok-g.ensures in
     gives _ _
     (simp gradient_refusal (unfold gradient_c in simp (none_met _ _ t, none_met _ _ x, none_met _ _ y, none_met _ _ g, told_rules)))
-    (unfold gradient_c in simp (c.across-w.ensures, c.minus.ensures, ← value_is _ _ g, ← value_is _ _ y, ← value_is _ _ x, ← value_is _ _ t))
+    (unfold gradient_c in simp (c.across-w.ensures, c.minus.ensures, ← value_is _ _ g, ← value_is _ _ y, ← value_is _ _ x))

@@ -1,10 +1,8 @@
+use Rattle.std.proofs.Common.{refl, rules}
+use Rattle.pieces.specs.Laws.{mapped}
 use Rattle.pieces.specs.Reversals.{turn_back}
 use Rattle.pieces.proofs.parts.turn_back.Goals as goal
 
-pub returns-in-Without : goal.returns-in-Without
+pub returns : goal.returns
 unfolding turn_back
-returns-in-Without c = simp c.in-Without.is
-
-pub returns-in-Angles : goal.returns-in-Angles
-unfolding turn_back
-returns-in-Angles c = simp c.in-Angles.is
+returns c = mapped turn_back _ refl (λ a. refl) _ _ _ c.map.ensures.cases (λ a b h. search rules)

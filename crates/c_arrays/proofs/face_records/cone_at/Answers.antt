@@ -1,4 +1,0 @@
-use Rattle.c_arrays.proofs.face_records.cone_at.Goals as goal
-
-pub returns : goal.returns
-returns c = simp (c.vec3_at-2.ensures, c.vec3_at.ensures)

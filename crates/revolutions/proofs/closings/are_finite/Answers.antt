@@ -1,4 +1,0 @@
-use Rattle.revolutions.proofs.closings.are_finite.Goals as goal
-
-pub returns : goal.returns
-returns c = simp (c.is_finite-2.ensures, c.is_finite.ensures)
