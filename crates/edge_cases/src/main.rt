@@ -6,19 +6,26 @@
 // number up to the second, which is not one of them, differ: a `Difference`.
 #![tactic(auto)]
 
-ghost use Rattle.std.specs.Prelude.{◌<◌, IfSome};
+ghost use Rattle.std.specs.Prelude.{◌<◌};
 
 use edge_file::Reading;
 use edge_lines::Line;
 use std::alloc::Global;
 use std::io;
+use std::io::Read;
+
+// As many bytes of the input are read.
+const MOST: u64 = 65536;
+
+// Room for two arcs and two ends: bytes of a file beyond it are left out.
+const ROOM: usize = 220;
 
 // In what the files of a line differ.
 #[derive(Clone, Copy, Debug, PartialEq, Eq)]
 enum Difference {
     // In nothing: it is one file.
     Nothing,
-    // In how many of its bytes are there.
+    // In how many of its bytes are there; zeros follow the last one.
     Size,
     // In the tag of the first record.
     Tag,
@@ -27,91 +34,106 @@ enum Difference {
     // In which number of the first record, counted from 1, has the pattern of the last eight
     // bytes, which do not belong to the file.
     Number,
+    // In nothing that a letter tells, though they are numbered.
+    Unknown,
 }
 
 // The files of a line: the first one's bytes, and the numbers of the files.
 #[derive(Drop)]
 struct Files<'a> {
-    name: &'a str,
+    name: &'a [u8],
     difference: Difference,
     from: u32,
     to: u32,
     bytes: Vec<u8>,
 }
 
-fn difference_of(letter: &str) -> Option<Difference> {
+fn difference_of(letter: u8) -> Difference {
     match letter {
-        "w" => Some(Difference::Nothing),
-        "c" => Some(Difference::Size),
-        "t" => Some(Difference::Tag),
-        "l" => Some(Difference::Length),
-        "p" => Some(Difference::Number),
-        _ => None,
+        b'w' => Difference::Nothing,
+        b'c' => Difference::Size,
+        b't' => Difference::Tag,
+        b'l' => Difference::Length,
+        b'p' => Difference::Number,
+        _ => Difference::Unknown,
     }
 }
 
 // The value of a hexadecimal digit.
-fn digit(b: u8) -> Option<u8>
-    ensures { IfSome result (λ d. d < 16) }
+fn digit(b: u8) -> u8
+    ensures { result < 16 }
 {
-    match b {
-        b'0'..=b'9' => Some(b - b'0'),
-        b'a'..=b'f' => Some(b - b'a' + 10),
-        _ => None,
+    if b < b'a' {
+        b % 16
+    } else {
+        (b - b'a' + 10) % 16
     }
 }
 
-// The bytes that a word's digits spell, two each, put behind others.
-fn put_bytes(bytes: &mut Vec<u8>, word: &str) -> io::Result<()> {
-    for pair in word.as_bytes().chunks_exact(2) {
-        if let (Some(high), Some(low)) = (digit(pair[0]), digit(pair[1])) {
-            bytes.push(16 * high + low)?;
-        }
+// The number that two digits spell; 0 where one is missing.
+fn pair(digits: &[u8]) -> u8 {
+    match *digits {
+        [high, low, ..] => 16 * digit(high) + digit(low),
+        _ => 0,
     }
-    Ok(())
+}
+
+// The number that six digits spell.
+fn number(digits: &[u8]) -> u32 {
+    let mut n = 0;
+    for two in digits.chunks_exact(2) {
+        n = 0x100 * (n % 0x1_0000) + pair(two) as u32;
+    }
+    n
+}
+
+// The bytes of a file, two digits each, with spaces between some of them.
+fn bytes_of(alloc: Global, text: &[u8]) -> io::Result<Vec<u8>> {
+    let mut bytes = Vec::new(alloc);
+    let mut rest = text;
+    for _ in 0..text.len() {
+        let taken = match rest.first() {
+            None => break,
+            Some(b' ') => 1,
+            Some(_) => {
+                if bytes.len() < ROOM {
+                    bytes.push(pair(rest))?;
+                }
+                2
+            }
+        };
+        rest = rest.get(taken..).unwrap_or(&[]);
+    }
+    Ok(bytes)
 }
 
 // What a line names, where it is one of files.
-fn files_of<'a>(alloc: Global, line: &'a str) -> io::Result<Option<Files<'a>>> {
-    let Some((name, rest)) = line.split_once(':') else {
+fn files_of<'a>(alloc: Global, line: &'a [u8]) -> io::Result<Option<Files<'a>>> {
+    let colon = line.iter().position(|b| *b == b':').unwrap_or(line.len());
+    let (name, rest) = line.split_at(colon);
+    // The colon, the letter and the two numbers.
+    let Some((first, rest)) = rest.split_first_chunk::<17>() else {
         return Ok(None);
     };
-    let mut words = rest.split_ascii_whitespace();
-    let Some(difference) = words.next().and_then(difference_of) else {
-        return Ok(None);
-    };
-    let from = number_of(words.next());
-    let to = number_of(words.next());
-    let mut bytes = Vec::new(alloc);
-    for word in words {
-        put_bytes(&mut bytes, word)?;
-    }
+    let bytes = bytes_of(alloc, rest)?;
     Ok(Some(Files {
         name,
-        difference,
-        from,
-        to,
+        difference: difference_of(first[2]),
+        from: number(&first[4..10]),
+        to: number(&first[11..17]),
         bytes,
     }))
 }
 
-// The number that hexadecimal digits spell; 0 where there are none.
-fn number_of(word: Option<&str>) -> u32 {
-    match word {
-        Some(digits) => u32::from_str_radix(digits, 16).unwrap_or(0),
-        None => 0,
-    }
-}
-
 // The file without its last eight bytes, which are put where its first record has the number n.
 fn with_number(bytes: &mut Vec<u8>, n: usize) {
+    if n < 1 || n > 13 {
+        return;
+    }
     if let Some(last) = bytes.last_chunk::<8>().copied() {
         bytes.truncate(bytes.len() - 8);
-        if n >= 1 && n <= 13 {
-            let at = 8 * n - 5;
-            if at + 8 <= bytes.len() {
-                bytes[at..at + 8].copy_from_slice(&last);
-            }
+        for (to, from) in bytes.iter_mut().skip(8 * n - 5).zip(last) {
+            *to = from;
         }
     }
 }
@@ -121,16 +143,16 @@ fn file_at(files: &Files, n: u32) -> io::Result<Vec<u8>> {
     let mut bytes = files.bytes.clone()?;
     let [low, high, ..] = n.to_le_bytes();
     match files.difference {
-        Difference::Nothing => {}
-        Difference::Size => bytes.truncate(n as usize),
+        Difference::Nothing | Difference::Unknown => {}
+        Difference::Size => bytes.resize(ROOM.min(n as usize), 0)?,
         Difference::Tag => {
             if let Some(tag) = bytes.first_mut() {
                 *tag = low;
             }
         }
         Difference::Length => {
-            if bytes.len() >= 3 {
-                bytes[1..3].copy_from_slice(&[low, high]);
+            for (to, from) in bytes.iter_mut().skip(1).zip([low, high]) {
+                *to = from;
             }
         }
         Difference::Number => with_number(&mut bytes, n as usize),
@@ -147,7 +169,7 @@ fn line_of(file: &[u8]) -> Line {
 fn tell(rt: &impl Print, files: &Files, first: u32, end: u32, line: &Line) -> io::Result<()> {
     if first < end {
         let last = end - 1;
-        print!(rt; "{}", files.name)?;
+        rt.write_all(files.name)?;
         if files.difference != Difference::Nothing {
             print!(rt; " {first}")?;
         }
@@ -178,11 +200,19 @@ fn tell_all(rt: &impl Print, files: &Files) -> io::Result<()> {
 
 fn main(rt: HostRuntime) -> io::Result<()> {
     let alloc = rt.alloc();
-    let text = io::read_to_string(alloc, rt.stdin())?;
-    for line in text.lines() {
+    let mut text = Vec::new(alloc);
+    rt.stdin().take(MOST).read_to_end(&mut text)?;
+    let mut rest = text.as_slice();
+    for _ in 0..text.len() {
+        if rest.is_empty() {
+            break;
+        }
+        let end = rest.iter().position(|b| *b == b'\n').unwrap_or(rest.len());
+        let (line, after) = rest.split_at(end);
         if let Some(files) = files_of(alloc, line)? {
             tell_all(&rt, &files)?;
         }
+        rest = after.get(1..).unwrap_or(&[]);
     }
     Ok(())
 }

@@ -4,7 +4,14 @@
 
 use answer_lines::{operation, pattern};
 use libm::{atan2, roots, sincos};
+use std::os::unix::fs::FileExt;
 use std::{fs, io};
+
+// More lines than the file has.
+const MOST: u32 = 1_000_000;
+
+// The longest line, its newline with it. A longer one ends the list, as does one that no newline ends.
+const LONGEST: usize = 4096;
 
 // How many lines came out how.
 #[derive(Clone, Copy)]
@@ -25,7 +32,9 @@ impl Tally {
 
 // The result is at most one step from number k of the line.
 fn is_near(line: &[u8], k: usize, got: f64) -> bool {
-    checked::bits(got).abs_diff(pattern(line, k)) <= 1
+    let due = pattern(line, k);
+    let bits = checked::bits(got);
+    (bits == due) | (bits.wrapping_add(1) == due) | (due.wrapping_add(1) == bits)
 }
 
 // The sine by both functions that give it, and the cosine.
@@ -56,16 +65,23 @@ fn is_comment(line: &[u8]) -> bool {
 }
 
 fn main(rt: HostRuntime) -> io::Result<()> {
-    let text = fs::read_to_string(&rt, "values.txt")?;
+    let file = fs::open(&rt, "values.txt")?;
     let mut tally = Tally { near: 0, off: 0 };
-    for (k, line) in text.lines().enumerate() {
-        let line = line.as_bytes();
+    let mut buf = [0; LONGEST];
+    let mut at = 0u64;
+    for k in 1..=MOST {
+        let n = file.read_at(&mut buf, at)?;
+        let Some(end) = buf[..n].iter().position(|b| *b == b'\n') else {
+            break;
+        };
+        at = at.saturating_add(end as u64 + 1);
+        let line = &buf[..end];
         if is_comment(line) {
             continue;
         }
         let is_near = is_known(line);
         if !is_near {
-            println!(rt; "off at line {}", k.saturating_add(1))?;
+            println!(rt; "off at line {k}")?;
         }
         tally.count(is_near);
     }

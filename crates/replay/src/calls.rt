@@ -4,7 +4,8 @@ use crate::{
     of_sums, of_surfaces, of_traces, of_vectors,
 };
 
-// The operation's name, and whether the line's answer is that of the function; where nobody knows the operation it is not.
+// The operation's name, and whether the line's answer is that of the function; an operation that nobody knows has no name and is never
+// alike.
 pub(crate) fn run(operation: u64, line: &[u8]) -> (&'static str, bool) {
     match operation {
         1 => ("sqrt", of_numbers::sqrt(line)),
@@ -73,6 +74,6 @@ pub(crate) fn run(operation: u64, line: &[u8]) -> (&'static str, bool) {
         61 => ("revolution_add_piece", of_sums::add_piece(line)),
         62 => ("revolution_close", of_sums::close(line)),
         63 => ("wall", of_sums::wall(line)),
-        _ => ("unknown", false),
+        _ => ("", false),
     }
 }

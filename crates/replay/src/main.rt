@@ -2,6 +2,8 @@
 // whose answer is another.
 #![tactic(auto)]
 
+use std::fs::File;
+use std::os::unix::fs::FileExt;
 use std::{fs, io};
 
 mod calls;
@@ -25,12 +27,20 @@ struct Tally {
     different: u64,
 }
 
-// The calls of the operation in hand, with its name, and all that were run.
+// The operation in hand, by number and name, its calls, and all that were run. The number of none is 0.
 #[derive(Clone, Copy)]
 struct Progress {
-    here: Option<(&'static str, Tally)>,
+    operation: u64,
+    name: &'static str,
+    here: Tally,
     all: Tally,
 }
+
+// More lines than a list has.
+const MOST: u32 = 1_000_000;
+
+// The longest line, its newline with it.
+const LONGEST: usize = 4096;
 
 impl Tally {
     const NONE: Self = Self {
@@ -53,38 +63,43 @@ impl Tally {
 
 impl Progress {
     const NONE: Self = Self {
-        here: None,
+        operation: 0,
+        name: "",
+        here: Tally::NONE,
         all: Tally::NONE,
     };
 
     // The line of the operation in hand, where there is one.
     fn print(&self, rt: &impl Print) -> io::Result<()> {
-        match self.here {
-            Some((name, tally)) => tally.print(rt, name),
-            None => Ok(()),
+        if self.operation > 0 {
+            self.here.print(rt, self.name)?;
         }
+        Ok(())
     }
 
-    // The tally so far of an operation: the one before is printed where that was another.
-    fn turn(&self, rt: &impl Print, name: &str) -> io::Result<Tally> {
-        match self.here {
-            Some((before, tally)) if before == name => Ok(tally),
-            _ => {
-                self.print(rt)?;
-                Ok(Tally::NONE)
-            }
+    // On to a line's operation: the one before is printed where that was another.
+    fn turn(&mut self, rt: &impl Print, operation: u64, name: &'static str) -> io::Result<()> {
+        if operation != self.operation {
+            self.print(rt)?;
+            *self = Self {
+                operation,
+                name,
+                here: Tally::NONE,
+                all: self.all,
+            };
         }
+        Ok(())
     }
 
-    // The call on line k, counted from 0.
-    fn step(&mut self, rt: &impl Print, k: usize, line: &[u8]) -> io::Result<()> {
-        let (name, is_alike) = calls::run(answer_lines::operation(line), line);
-        let mut tally = self.turn(rt, name)?;
+    // The call on line k.
+    fn step(&mut self, rt: &impl Print, k: u32, line: &[u8]) -> io::Result<()> {
+        let operation = answer_lines::operation(line);
+        let (name, is_alike) = calls::run(operation, line);
+        self.turn(rt, operation, name)?;
         if !is_alike {
-            println!(rt; "different at line {}", k.saturating_add(1))?;
+            println!(rt; "different at line {k}")?;
         }
-        tally.count(is_alike);
-        self.here = Some((name, tally));
+        self.here.count(is_alike);
         self.all.count(is_alike);
         Ok(())
     }
@@ -95,10 +110,22 @@ fn is_comment(line: &[u8]) -> bool {
     matches!(line.first(), None | Some(b'#'))
 }
 
-fn replay(rt: &impl Print, list: &str) -> io::Result<()> {
+// The list is over where no byte is left. A line whose newline does not come within the longest one's bytes, or not at all, is told:
+// what follows is not run.
+fn replay(rt: &impl Print, list: &File) -> io::Result<()> {
     let mut p = Progress::NONE;
-    for (k, line) in list.lines().enumerate() {
-        let line = line.as_bytes();
+    let mut buf = [0; LONGEST];
+    let mut at = 0u64;
+    for k in 1..=MOST {
+        let n = list.read_at(&mut buf, at)?;
+        let Some(end) = buf[..n].iter().position(|b| *b == b'\n') else {
+            if n > 0 {
+                println!(rt; "no end in {LONGEST} bytes of line {k}")?;
+            }
+            break;
+        };
+        at = at.saturating_add(end as u64 + 1);
+        let line = &buf[..end];
         if !is_comment(line) {
             p.step(rt, k, line)?;
         }
@@ -108,6 +135,6 @@ fn replay(rt: &impl Print, list: &str) -> io::Result<()> {
 }
 
 fn main(rt: HostRuntime) -> io::Result<()> {
-    replay(&rt, fs::read_to_string(&rt, "answers.txt")?.as_str())?;
-    replay(&rt, fs::read_to_string(&rt, "trials.txt")?.as_str())
+    replay(&rt, &fs::open(&rt, "answers.txt")?)?;
+    replay(&rt, &fs::open(&rt, "trials.txt")?)
 }
