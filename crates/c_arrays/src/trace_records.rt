@@ -52,12 +52,18 @@ pub fn meet_at(a: &[f64], k: usize, tag: u32) -> Meet
     }
 }
 
-// A meet by its tag: 0 without `turn`, 1 with it.
-pub fn meet_of(a: &[f64; 10], tag: u32) -> Option<Meet>
+pub fn meet_of(a: &[f64; 10], tag: u32) -> Meet
+    ensures { result ≡ meet a.now tag }
+{
+    meet_at(a, 0, tag)
+}
+
+// The same where the tag is known: 0 without `turn`, 1 with it.
+pub fn known_meet(a: &[f64; 10], tag: u32) -> Option<Meet>
     ensures { result ≡ known (is_turn tag) (meet a.now tag) }
 {
     match tag {
-        0..=1 => Some(meet_at(a, 0, tag)),
+        0..=1 => Some(meet_of(a, tag)),
         _ => None,
     }
 }
@@ -74,12 +80,18 @@ pub fn trace_at(a: &[f64], k: usize, kind: u32) -> Trace
     }
 }
 
-// A trace by its tag: 1 a wave, 2 a meet without `turn`, 3 a meet with it.
-pub fn trace_of(a: &[f64; 10], kind: u32) -> Option<Trace>
+pub fn trace_of(a: &[f64; 10], kind: u32) -> Trace
+    ensures { result ≡ trace_of a.now kind }
+{
+    trace_at(a, 0, kind)
+}
+
+// The same where the tag is known: 1 a wave, 2 a meet without `turn`, 3 a meet with it.
+pub fn known_trace(a: &[f64; 10], kind: u32) -> Option<Trace>
     ensures { result ≡ known (is_trace kind) (trace_of a.now kind) }
 {
     match kind {
-        1..=3 => Some(trace_at(a, 0, kind)),
+        1..=3 => Some(trace_of(a, kind)),
         _ => None,
     }
 }

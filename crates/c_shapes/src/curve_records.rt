@@ -11,7 +11,8 @@ use curves::{Curve, RolledAt};
 use piece_arrays::{is_piece, piece_at, put_piece};
 
 // The curve of an array: an arc where the tag is 0, whose other tags are not read, else a piece.
-pub fn curve_at(a: &[f64; 27], kind: u32, arc: u32, trace: u32) -> Curve
+#[inline(always)]
+pub fn curve_of(a: &[f64; 27], kind: u32, arc: u32, trace: u32) -> Curve
     ensures { result ≡ curve a.now kind arc trace }
 {
     match kind {
@@ -24,12 +25,13 @@ pub fn curve_at(a: &[f64; 27], kind: u32, arc: u32, trace: u32) -> Curve
 }
 
 // The same where the tags are known: 0 an arc, 1 a piece.
-pub fn curve_of(a: &[f64; 27], kind: u32, arc: u32, trace: u32) -> Option<Curve>
+#[inline(always)]
+pub fn known_curve(a: &[f64; 27], kind: u32, arc: u32, trace: u32) -> Option<Curve>
     ensures { result ≡ known (is_curve kind arc trace) (curve a.now kind arc trace) }
 {
     match kind {
-        0 => Some(curve_at(a, kind, arc, trace)),
-        1 if is_piece(arc, trace) => Some(curve_at(a, kind, arc, trace)),
+        0 => Some(curve_of(a, kind, arc, trace)),
+        1 if is_piece(arc, trace) => Some(curve_of(a, kind, arc, trace)),
         _ => None,
     }
 }

@@ -8,18 +8,18 @@ ghost use Rattle.c_shapes.specs.PieceRecords.{of_place, of_measure, of_box};
 
 use crate::stored::{Stored, Tagged};
 use c_arrays::put_vec2;
-use piece_arrays::{arc_tag, is_piece, piece_at, put_piece, trace_tag};
+use piece_arrays::{arc_tag, is_piece, piece_of, put_piece, trace_tag};
 use piece_boxes::brackets::FlatBox;
 use piece_curves::meet_curves::Place;
 use piece_lengths::measures::Measure;
 use pieces::Rolled;
 
-// A piece by its tags: of its arc and of its trace.
-pub fn piece_of(a: &[f64; 26], arc: u32, trace: u32) -> Option<Rolled>
+// A piece where its tags are known: of its arc and of its trace.
+pub fn known_piece(a: &[f64; 26], arc: u32, trace: u32) -> Option<Rolled>
     ensures { result ≡ known (is_piece arc trace) (piece a.now arc trace) }
 {
     if is_piece(arc, trace) {
-        Some(piece_at(a, arc, trace))
+        Some(piece_of(a, arc, trace))
     } else {
         None
     }

@@ -29,6 +29,7 @@ pub trait Tagged {
 }
 
 // The refusal's number, 0 where there is none: then the record is in the array.
+#[inline(always)]
 pub fn store<T: Stored<E, N>, E, const N: usize>(
     answer: Result<T, Refusal>,
     out: &mut [E; N],
@@ -46,6 +47,7 @@ pub fn store<T: Stored<E, N>, E, const N: usize>(
 }
 
 // The same where there may be no record to give, which has a number of its own.
+#[inline(always)]
 pub fn store_some<T: Stored<E, N>, E, const N: usize>(
     answer: Result<Option<T>, Refusal>,
     out: &mut [E; N],
@@ -64,6 +66,7 @@ pub fn store_some<T: Stored<E, N>, E, const N: usize>(
 }
 
 // The same with the record's tags.
+#[inline(always)]
 pub fn store_tagged<T: Stored<E, N> + Tagged + Copy, E, const N: usize>(
     answer: Result<T, Refusal>,
     out: &mut [E; N],
@@ -84,6 +87,7 @@ pub fn store_tagged<T: Stored<E, N> + Tagged + Copy, E, const N: usize>(
 }
 
 // How many points were drawn, as how many numbers these are.
+#[inline(always)]
 pub fn store_drawn(answer: Result<u16, Refusal>, written: &mut [u64; 1]) -> u32
     ensures number { result ≡ number_of (told answer) }
     ensures written { written.new ≡ after of_drawn written.old (told answer) }

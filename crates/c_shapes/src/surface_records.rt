@@ -8,7 +8,7 @@ ghost use Rattle.c_shapes.specs.SurfaceRecords.{is_surface, plane, cylinder, sur
 use crate::stored::Stored;
 use c_arrays::face_records::{cone_at, put_cone};
 use c_arrays::{put_vec3, vec3_at};
-use piece_arrays::{is_piece, piece_at, put_piece};
+use piece_arrays::{is_piece, piece_of, put_piece};
 use surfaces::{Cylinder, Plane, Surface};
 
 fn plane_of(a: &[f64; 26]) -> Plane
@@ -49,24 +49,32 @@ fn put_cylinder(c: Cylinder, out: &mut [f64])
 }
 
 // The surface of an array: 0 a plane, 1 a cylinder, 2 a cone, whose other tags are not read, else a wall.
-pub fn surface_at(a: &[f64; 26], kind: u32, convex: bool, arc: u32, trace: u32) -> Surface
+#[inline(always)]
+pub fn surface_of(a: &[f64; 26], kind: u32, convex: bool, arc: u32, trace: u32) -> Surface
     ensures { result ≡ surface a.now kind convex arc trace }
 {
     match kind {
         0 => Surface::Plane(plane_of(a)),
         1 => Surface::Cylinder(cylinder_of(a, convex)),
         2 => Surface::Cone(cone_at(a, convex)),
-        _ => Surface::Wall(piece_at(a, arc, trace)),
+        _ => Surface::Wall(piece_of(a, arc, trace)),
     }
 }
 
 // The same where the tags are known: 3 is a wall.
-pub fn surface_of(a: &[f64; 26], kind: u32, convex: bool, arc: u32, trace: u32) -> Option<Surface>
+#[inline(always)]
+pub fn known_surface(
+    a: &[f64; 26],
+    kind: u32,
+    convex: bool,
+    arc: u32,
+    trace: u32,
+) -> Option<Surface>
     ensures { result ≡ known (is_surface kind arc trace) (surface a.now kind convex arc trace) }
 {
     match kind {
-        0..=2 => Some(surface_at(a, kind, convex, arc, trace)),
-        3 if is_piece(arc, trace) => Some(surface_at(a, kind, convex, arc, trace)),
+        0..=2 => Some(surface_of(a, kind, convex, arc, trace)),
+        3 if is_piece(arc, trace) => Some(surface_of(a, kind, convex, arc, trace)),
         _ => None,
     }
 }

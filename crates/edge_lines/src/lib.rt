@@ -14,7 +14,7 @@ use std::marker::Model;
 use vectors::Vec3;
 
 // Room for the longest line.
-const ROOM: usize = 160;
+pub const ROOM: usize = 160;
 
 // A line, or as much of it as stands: its text is at the end of the buffer.
 #[derive(Drop)]

@@ -10,14 +10,7 @@ use borrow.Author.Tests.{eqb-true}
 use Rattle.edge_records.specs.Records.{shortest}
 use Rattle.edge_file.specs.EdgeFile.{line_of}
 use Rattle.edge_file.specs.Steps.{State, begun, line_on, is_refused, Fed}
-use Rattle.edgebox.specs.Input.{is_due, HasRead}
-
--- The reading r takes the bytes of a read, and q follows: as many as an edge's record has are taken
--- whole, whatever comes after them; fewer are the last of the file, and the line is that of a file
--- which ends with them.
-pub record Took (r : State) (bytes : List ℕ) (q : State) : Type 0 where
-  pub on : length bytes ≡ shortest → (rest : List ℕ) → line_on q rest ≡ line_on r (bytes ++ rest)
-  pub over : line_on q [] ≡ line_on r bytes
+use Rattle.edgebox.specs.Input.{Took, is_due, HasRead}
 
 pub took : (r q : State) (bytes : List ℕ) (used : ℕ) → Fed r bytes q used → Took r bytes q
 took r q bytes used f = record {

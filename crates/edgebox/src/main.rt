@@ -5,12 +5,19 @@
 ghost use Rattle.std.specs.Prelude.{◌≡◌, ◌≤◌, length};
 ghost use Rattle.edge_records.specs.Records.{shortest};
 ghost use Rattle.edge_file.specs.Steps.{state};
-ghost use Rattle.edgebox.specs.Input.{is_due, HasRead};
+ghost use Rattle.edgebox.specs.Input.{Took, is_due, HasRead};
 
 use edge_file::Reading;
 use edge_records::ARC;
 use std::io;
 use std::io::Read;
+
+// The reading after the bytes of one read.
+fn take(reading: Reading, bytes: &[u8]) -> Reading
+    ensures { Took (state reading) bytes.now (state result) }
+{
+    reading.feed(bytes).reading
+}
 
 // Whether another read is due after that of some bytes, which the reading has taken.
 fn is_due(reading: Reading, bytes: &[u8]) -> bool
@@ -46,7 +53,7 @@ fn read_all<R: Read>(input: &mut R, buf: &mut [u8]) -> Reading
     for _ in 0..u64::MAX {
         let count = read_full(input, buf);
         let bytes = &buf[..count];
-        reading = reading.feed(bytes).reading;
+        reading = take(reading, bytes);
         if !is_due(reading, bytes) {
             break;
         }

@@ -11,7 +11,7 @@ ghost use Rattle.c_shapes.specs.CurveRecords.{is_curve, curve, with_curve, curve
 
 use c_arrays::arc_records::{bounds_of, rigid_of};
 use c_arrays::{UNKNOWN_TAG, vec3_of};
-use c_shapes::curve_records::curve_of;
+use c_shapes::curve_records::known_curve;
 use c_shapes::stored::{store, store_drawn, store_some, store_tagged};
 use curves::drawn::write_inner_points;
 
@@ -29,7 +29,7 @@ pub fn jr_curve_reversed(
     ensures out { out.new ≡ stored with_curve out.old (tag_due (is_curve kind arc trace) (Curves.reversed_due (curve c.now kind arc trace))) }
     ensures tags { tags.new ≡ after curve_tags tags.old (tag_due (is_curve kind arc trace) (Curves.reversed_due (curve c.now kind arc trace))) }
 {
-    let Some(e) = curve_of(c, kind, arc, trace) else {
+    let Some(e) = known_curve(c, kind, arc, trace) else {
         return UNKNOWN_TAG;
     };
     store_tagged(e.reversed(), out, tags)
@@ -47,7 +47,7 @@ pub fn jr_curve_moved(
     ensures number { result ≡ number_of (tag_due (is_curve kind arc trace) (Curves.moved_due (curve c.now kind arc trace) (rigid m.now))) }
     ensures out { out.new ≡ stored with_curve out.old (tag_due (is_curve kind arc trace) (Curves.moved_due (curve c.now kind arc trace) (rigid m.now))) }
 {
-    let Some(e) = curve_of(c, kind, arc, trace) else {
+    let Some(e) = known_curve(c, kind, arc, trace) else {
         return UNKNOWN_TAG;
     };
     store(e.moved(rigid_of(m)), out)
@@ -58,7 +58,7 @@ pub fn jr_curve_arc(c: &[f64; 27], kind: u32, arc: u32, trace: u32, out: &mut [f
     ensures number { result ≡ number_of (tag_due (is_curve kind arc trace) (some_due (Curves.arc_due (curve c.now kind arc trace)))) }
     ensures out { out.new ≡ after of_arc out.old (tag_due (is_curve kind arc trace) (some_due (Curves.arc_due (curve c.now kind arc trace)))) }
 {
-    let Some(e) = curve_of(c, kind, arc, trace) else {
+    let Some(e) = known_curve(c, kind, arc, trace) else {
         return UNKNOWN_TAG;
     };
     store_some(e.arc(), out)
@@ -82,7 +82,7 @@ pub fn jr_curve_inner_points(
     ensures row { row.new ≡ Rows.row_after (tag_due (is_curve kind arc trace) (inner_points_due (curve c.now kind arc trace) (vec3 from.now) (vec3 to.now) chord (length row.old))) row.old }
     ensures written { written.new ≡ after_count written.old (tag_due (is_curve kind arc trace) (inner_points_due (curve c.now kind arc trace) (vec3 from.now) (vec3 to.now) chord (length row.old))) }
 {
-    let Some(e) = curve_of(c, kind, arc, trace) else {
+    let Some(e) = known_curve(c, kind, arc, trace) else {
         return UNKNOWN_TAG;
     };
     store_drawn(
@@ -105,7 +105,7 @@ pub fn jr_curve_extend_bounds(
     ensures number { result ≡ number_of (tag_due (is_curve kind arc trace) (Curves.extend_due (curve c.now kind arc trace) (vec3 from.now) (vec3 to.now) (bounds b.old))) }
     ensures corners { b.new ≡ after of_bounds b.old (tag_due (is_curve kind arc trace) (Curves.extend_due (curve c.now kind arc trace) (vec3 from.now) (vec3 to.now) (bounds b.old))) }
 {
-    let Some(e) = curve_of(c, kind, arc, trace) else {
+    let Some(e) = known_curve(c, kind, arc, trace) else {
         return UNKNOWN_TAG;
     };
     store(e.extended(vec3_of(from), vec3_of(to), bounds_of(b)), b)

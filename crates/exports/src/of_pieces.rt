@@ -7,7 +7,7 @@ ghost use Rattle.piece_arrays.specs.Arrays.{is_piece, piece, tags_of, with_piece
 ghost use Rattle.c_shapes.specs.PieceRecords.{of_place, of_measure, of_box};
 
 use c_arrays::{UNKNOWN_TAG, vec2_of};
-use c_shapes::piece_records::piece_of;
+use c_shapes::piece_records::known_piece;
 use c_shapes::stored::{store, store_tagged};
 
 // The box of the piece w in its development: the least and the greatest u, the least and the
@@ -16,7 +16,7 @@ pub fn jr_piece_uv_box(w: &[f64; 26], arc: u32, trace: u32, out: &mut [f64; 4]) 
     ensures number { result ≡ number_of (tag_due (is_piece arc trace) (Pieces.uv_box_due (piece w.now arc trace))) }
     ensures out { out.new ≡ after of_box out.old (tag_due (is_piece arc trace) (Pieces.uv_box_due (piece w.now arc trace))) }
 {
-    let Some(c) = piece_of(w, arc, trace) else {
+    let Some(c) = known_piece(w, arc, trace) else {
         return UNKNOWN_TAG;
     };
     store(c.uv_box(), out)
@@ -33,7 +33,7 @@ pub fn jr_piece_polyline(
     ensures number { result ≡ number_of (tag_due (is_piece arc trace) (Pieces.polyline_due (piece w.now arc trace) deviation)) }
     ensures out { out.new ≡ after alone out.old (tag_due (is_piece arc trace) (Pieces.polyline_due (piece w.now arc trace) deviation)) }
 {
-    let Some(c) = piece_of(w, arc, trace) else {
+    let Some(c) = known_piece(w, arc, trace) else {
         return UNKNOWN_TAG;
     };
     store(c.polyline(deviation), out)
@@ -51,7 +51,7 @@ pub fn jr_piece_reversed(
     ensures out { out.new ≡ stored with_piece out.old (tag_due (is_piece arc trace) (Pieces.reversed_due (piece w.now arc trace))) }
     ensures tags { tags.new ≡ after tags_of tags.old (tag_due (is_piece arc trace) (Pieces.reversed_due (piece w.now arc trace))) }
 {
-    let Some(c) = piece_of(w, arc, trace) else {
+    let Some(c) = known_piece(w, arc, trace) else {
         return UNKNOWN_TAG;
     };
     store_tagged(c.reversed(), out, tags)
@@ -63,7 +63,7 @@ pub fn jr_piece_at(w: &[f64; 26], arc: u32, trace: u32, t: f64, out: &mut [f64; 
     ensures number { result ≡ number_of (tag_due (is_piece arc trace) (Pieces.at_due (piece w.now arc trace) t)) }
     ensures out { out.new ≡ after of_place out.old (tag_due (is_piece arc trace) (Pieces.at_due (piece w.now arc trace) t)) }
 {
-    let Some(c) = piece_of(w, arc, trace) else {
+    let Some(c) = known_piece(w, arc, trace) else {
         return UNKNOWN_TAG;
     };
     store(c.at(t), out)
@@ -74,7 +74,7 @@ pub fn jr_piece_second(w: &[f64; 26], arc: u32, trace: u32, t: f64, out: &mut [f
     ensures number { result ≡ number_of (tag_due (is_piece arc trace) (Pieces.second_due (piece w.now arc trace) t)) }
     ensures out { out.new ≡ after of_vec2 out.old (tag_due (is_piece arc trace) (Pieces.second_due (piece w.now arc trace) t)) }
 {
-    let Some(c) = piece_of(w, arc, trace) else {
+    let Some(c) = known_piece(w, arc, trace) else {
         return UNKNOWN_TAG;
     };
     store(c.second(t), out)
@@ -93,7 +93,7 @@ pub fn jr_piece_normal(
     ensures number { result ≡ number_of (tag_due (is_piece arc trace) (Pieces.normal_due (piece w.now arc trace) (vec2 p.now) r)) }
     ensures out { out.new ≡ after of_vec3 out.old (tag_due (is_piece arc trace) (Pieces.normal_due (piece w.now arc trace) (vec2 p.now) r)) }
 {
-    let Some(c) = piece_of(w, arc, trace) else {
+    let Some(c) = known_piece(w, arc, trace) else {
         return UNKNOWN_TAG;
     };
     store(c.normal(vec2_of(p), r), out)
@@ -104,7 +104,7 @@ pub fn jr_piece_measure(w: &[f64; 26], arc: u32, trace: u32, out: &mut [f64; 3])
     ensures number { result ≡ number_of (tag_due (is_piece arc trace) (Pieces.measure_due (piece w.now arc trace))) }
     ensures out { out.new ≡ after of_measure out.old (tag_due (is_piece arc trace) (Pieces.measure_due (piece w.now arc trace))) }
 {
-    let Some(c) = piece_of(w, arc, trace) else {
+    let Some(c) = known_piece(w, arc, trace) else {
         return UNKNOWN_TAG;
     };
     store(c.measure(), out)
@@ -116,7 +116,7 @@ pub fn jr_piece_quadrature_pieces(w: &[f64; 26], arc: u32, trace: u32, out: &mut
     ensures number { result ≡ number_of (tag_due (is_piece arc trace) (Pieces.quadrature_due (piece w.now arc trace))) }
     ensures out { out.new ≡ after alone out.old (tag_due (is_piece arc trace) (Pieces.quadrature_due (piece w.now arc trace))) }
 {
-    let Some(c) = piece_of(w, arc, trace) else {
+    let Some(c) = known_piece(w, arc, trace) else {
         return UNKNOWN_TAG;
     };
     store(c.quadrature_pieces(), out)
@@ -134,7 +134,7 @@ pub fn jr_piece_chords(
     ensures number { result ≡ number_of (tag_due (is_piece arc trace) (Pieces.chords_due (piece w.now arc trace) r chord)) }
     ensures out { out.new ≡ after alone out.old (tag_due (is_piece arc trace) (Pieces.chords_due (piece w.now arc trace) r chord)) }
 {
-    let Some(c) = piece_of(w, arc, trace) else {
+    let Some(c) = known_piece(w, arc, trace) else {
         return UNKNOWN_TAG;
     };
     store(c.chords(r, chord), out)

@@ -13,7 +13,7 @@ ghost use Rattle.piece_arrays.specs.Arrays.{is_piece, piece};
 use c_arrays::arc_records::arc_of;
 use c_arrays::face_records::{cone_of, sums_of};
 use c_arrays::{UNKNOWN_TAG, vec3_of};
-use c_shapes::piece_records::piece_of;
+use c_shapes::piece_records::known_piece;
 use c_shapes::stored::store;
 use revolutions::closings;
 use walls::cut_walls;
@@ -92,7 +92,7 @@ pub fn jr_revolution_add_piece(
     ensures number { result ≡ number_of (tag_due (is_piece arc trace) (Revolutions.add_due (cone c.now true) (vec3 o.now) (Revolutions.piece (piece w.now arc trace)) (sums running.old))) }
     ensures running { running.new ≡ after of_sums running.old (tag_due (is_piece arc trace) (Revolutions.add_due (cone c.now true) (vec3 o.now) (Revolutions.piece (piece w.now arc trace)) (sums running.old))) }
 {
-    let Some(p) = piece_of(w, arc, trace) else {
+    let Some(p) = known_piece(w, arc, trace) else {
         return UNKNOWN_TAG;
     };
     store(
@@ -132,7 +132,7 @@ pub fn jr_wall(
     ensures number { result ≡ number_of (tag_due (is_piece arc trace) (wall_due (piece w.now arc trace) r0 r1 (vec3 o.now) (sums acc.old))) }
     ensures acc { acc.new ≡ after of_sums acc.old (tag_due (is_piece arc trace) (wall_due (piece w.now arc trace) r0 r1 (vec3 o.now) (sums acc.old))) }
 {
-    let Some(p) = piece_of(w, arc, trace) else {
+    let Some(p) = known_piece(w, arc, trace) else {
         return UNKNOWN_TAG;
     };
     store(

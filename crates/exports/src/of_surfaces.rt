@@ -11,7 +11,7 @@ ghost use Rattle.c_shapes.specs.SurfaceRecords.{is_surface, surface, of_plane, w
 use c_arrays::arc_records::rigid_of;
 use c_arrays::{UNKNOWN_TAG, vec3_of};
 use c_shapes::stored::{store, store_some};
-use c_shapes::surface_records::surface_of;
+use c_shapes::surface_records::known_surface;
 
 // The plane that the surface s is, its origin and its normal; 255 where it is none.
 pub fn jr_surface_plane(
@@ -25,7 +25,7 @@ pub fn jr_surface_plane(
     ensures number { result ≡ number_of (tag_due (is_surface kind arc trace) (some_due (Surfaces.plane_due (surface s.now kind convex arc trace)))) }
     ensures out { out.new ≡ after of_plane out.old (tag_due (is_surface kind arc trace) (some_due (Surfaces.plane_due (surface s.now kind convex arc trace)))) }
 {
-    let Some(f) = surface_of(s, kind, convex, arc, trace) else {
+    let Some(f) = known_surface(s, kind, convex, arc, trace) else {
         return UNKNOWN_TAG;
     };
     store_some(f.plane(), out)
@@ -43,7 +43,7 @@ pub fn jr_surface_revolution(
     ensures number { result ≡ number_of (tag_due (is_surface kind arc trace) (some_due (Surfaces.revolution_due (surface s.now kind convex arc trace)))) }
     ensures out { out.new ≡ after of_cone out.old (tag_due (is_surface kind arc trace) (some_due (Surfaces.revolution_due (surface s.now kind convex arc trace)))) }
 {
-    let Some(f) = surface_of(s, kind, convex, arc, trace) else {
+    let Some(f) = known_surface(s, kind, convex, arc, trace) else {
         return UNKNOWN_TAG;
     };
     store_some(f.revolution(), out)
@@ -62,7 +62,7 @@ pub fn jr_surface_moved(
     ensures number { result ≡ number_of (tag_due (is_surface kind arc trace) (Surfaces.moved_due (surface s.now kind convex arc trace) (rigid m.now))) }
     ensures out { out.new ≡ stored with_surface out.old (tag_due (is_surface kind arc trace) (Surfaces.moved_due (surface s.now kind convex arc trace) (rigid m.now))) }
 {
-    let Some(f) = surface_of(s, kind, convex, arc, trace) else {
+    let Some(f) = known_surface(s, kind, convex, arc, trace) else {
         return UNKNOWN_TAG;
     };
     store(f.moved(rigid_of(m)), out)
@@ -81,7 +81,7 @@ pub fn jr_surface_normal_at(
     ensures number { result ≡ number_of (tag_due (is_surface kind arc trace) (Surfaces.normal_due (surface s.now kind convex arc trace) (vec3 p.now))) }
     ensures out { out.new ≡ after of_vec3 out.old (tag_due (is_surface kind arc trace) (Surfaces.normal_due (surface s.now kind convex arc trace) (vec3 p.now))) }
 {
-    let Some(f) = surface_of(s, kind, convex, arc, trace) else {
+    let Some(f) = known_surface(s, kind, convex, arc, trace) else {
         return UNKNOWN_TAG;
     };
     store(f.normal_at(vec3_of(p)), out)

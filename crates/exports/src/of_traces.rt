@@ -8,7 +8,7 @@ ghost use Rattle.c_arrays.specs.Records.{alone, after, tag_due};
 ghost use Rattle.c_arrays.specs.TraceRecords.{wave, is_turn, meet, is_trace, trace_of, of_jet, of_span, of_points, some_due};
 
 use c_arrays::UNKNOWN_TAG;
-use c_arrays::trace_records::{meet_of, trace_of, wave_of};
+use c_arrays::trace_records::{known_meet, known_trace, wave_of};
 use c_shapes::stored::{store, store_some};
 
 // The v of the wave w at u and its first and second derivatives, the neutral radius being n.
@@ -33,7 +33,7 @@ pub fn jr_meet_point(m: &[f64; 10], turn: u32, phi: f64, n: f64, out: &mut [f64;
     ensures number { result ≡ number_of (tag_due (is_turn turn) (Meets.point_due (meet m.now turn) phi n)) }
     ensures out { out.new ≡ after of_points out.old (tag_due (is_turn turn) (Meets.point_due (meet m.now turn) phi n)) }
 {
-    let Some(c) = meet_of(m, turn) else {
+    let Some(c) = known_meet(m, turn) else {
         return UNKNOWN_TAG;
     };
     store(c.point(phi, n), out)
@@ -45,7 +45,7 @@ pub fn jr_trace_v(t: &[f64; 10], kind: u32, u: f64, n: f64, out: &mut [f64; 1]) 
     ensures number { result ≡ number_of (tag_due (is_trace kind) (some_due (Traces.v_due (trace_of t.now kind) u n))) }
     ensures out { out.new ≡ after alone out.old (tag_due (is_trace kind) (some_due (Traces.v_due (trace_of t.now kind) u n))) }
 {
-    let Some(c) = trace_of(t, kind) else {
+    let Some(c) = known_trace(t, kind) else {
         return UNKNOWN_TAG;
     };
     store_some(c.v(u, n), out)

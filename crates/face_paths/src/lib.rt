@@ -18,6 +18,7 @@ use integrals::panels::{Summand, along};
 use integrals::{Integrals, SurfaceIntegrals};
 use piece_lengths::counts::quadrature_pieces;
 use pieces::Rolled;
+use pieces::formula::run;
 use vectors::Vec3;
 
 pub mod arc_paths;
@@ -86,7 +87,7 @@ pub fn with_piece(cone: Cone, o: Vec3, p: Rolled, sums: Integrals) -> Result<Int
     ensures { told result ≡ answered (with_piece_c cone o p sums) }
 {
     let surface = revolve(cone, o)?;
-    let d = piece_path_of(surface.frame, p)?;
+    let d = piece_path_of(surface.frame, p.dev, run(p))?;
     let n = quadrature_pieces(d.run)?;
     let path = FacePath::Piece(d);
     let after = along(&Outline { surface, path }, n, sums.surface)?;

@@ -1,18 +1,17 @@
 // A piece of a development as a path on a cylinder. Numbers may be of any size.
 ghost use Rattle.std.specs.Prelude.{◌≡◌};
-ghost use Rattle.checked.specs.Checked.{answered};
+ghost use Rattle.checked.specs.Checked.{Checked, answered};
 ghost use Rattle.checked.specs.Told.{told};
-ghost use Rattle.pieces.specs.Pieces.{run_c};
+ghost use Rattle.piece_curves.specs.declared.PieceCurve.{PieceCurve};
 ghost use Rattle.face_paths.specs.PiecePaths.{piece_path_of_c, piece_path_at};
 
 use crate::piece_rates::rate_at;
 use checked::{Refusal, finite};
 use cones::Frame;
+use developments::Development;
 use integrals::integrands::PathPoint;
 use integrals::side;
 use piece_curves::PieceCurve;
-use pieces::Rolled;
-use pieces::formula::run;
 use profile_arcs::angles::angle;
 use vectors::formula::{dot, minus};
 
@@ -26,14 +25,18 @@ pub struct PiecePath {
     pub z: f64,
 }
 
-// The path of a piece.
-pub fn piece_path_of(f: Frame, p: Rolled) -> Result<PiecePath, Refusal>
-    ensures { told result ≡ answered (piece_path_of_c f p.dev.origin p.dev.axis p.dev.start (run_c p)) }
+// The path of a piece of a development, which its run follows.
+pub fn piece_path_of(
+    f: Frame,
+    dev: Development,
+    run: Result<PieceCurve, Refusal>,
+) -> Result<PiecePath, Refusal>
+    ensures { (piece : Checked PieceCurve) → told run ≡ answered piece → told result ≡ answered (piece_path_of_c f dev.origin dev.axis dev.start piece) }
 {
-    let d = finite(dot(p.dev.axis, f.axis))?;
-    let start = angle(dot(p.dev.start, f.e2), dot(p.dev.start, f.e1))?;
-    let z = finite(dot(minus(p.dev.origin, f.origin), f.axis))?;
-    let run = run(p)?;
+    let d = finite(dot(dev.axis, f.axis))?;
+    let start = angle(dot(dev.start, f.e2), dot(dev.start, f.e1))?;
+    let z = finite(dot(minus(dev.origin, f.origin), f.axis))?;
+    let run = run?;
     Ok(PiecePath {
         run,
         start,

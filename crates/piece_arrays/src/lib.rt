@@ -73,6 +73,12 @@ pub fn piece_at(a: &[f64], arc: u32, trace: u32) -> Rolled
     }
 }
 
+pub fn piece_of(a: &[f64; 26], arc: u32, trace: u32) -> Rolled
+    ensures { result ≡ piece a.now arc trace }
+{
+    piece_at(a, arc, trace)
+}
+
 // 0 without an arc, 1 counterclockwise, 2 clockwise.
 #[tactic(auto, unfolding(crate::specs::Arrays::arc_tag))]
 pub fn arc_tag(arc: Option<ProfileArc>) -> u32

@@ -23,7 +23,7 @@ use Rattle.piece_curves.specs.Points.{arc_point_c}
 use Rattle.piece_lengths.specs.SecondDerivatives.{level_c, level_at_c, level_slope_c, level_bend_c, height_bend_c, angle_bend_c, bend_u_c, bend_v_c, meet_by, meet_c, wave_c, arc_c}
 
 -- ---- where a generatrix meets the cylinder
-level_refusal : (p a : Vec3) (t : Float) → (level_c p a t).refusal ≡ first (nine (level_c p a t).value.x) (nine (level_c p a t).value.y)
+pub level_refusal : (p a : Vec3) (t : Float) → (level_c p a t).refusal ≡ first (nine (level_c p a t).value.x) (nine (level_c p a t).value.y)
 unfolding level_c
 level_refusal p a t = simp checked_rules
 

@@ -63,8 +63,9 @@ impl Rolled {
         ensures { failed result ≡ tests self }
     {
         require(self.is_within_limit(), Refusal::OutOfRange)?;
-        require_neutral(self.dev.neutral)?;
-        require(!are_both(self.arc, self.trace), Refusal::ArcAndTrace)
+        let neutral = require_neutral(self.dev.neutral);
+        let one_kind = require(!are_both(self.arc, self.trace), Refusal::ArcAndTrace);
+        neutral.and(one_kind)
     }
 
     // The point at t, from 0 at `from` to 1 at `to`, and its derivative in t.

@@ -115,7 +115,7 @@ module _ {A : Type 0} (k : Item A) where
       get (refused i) = n
   part_count (refused r) n h = absurd (never r n (sym h))
 
-  part_taken : (d : Due (List A)) (row : List Float) → take (length (part_items k d)) (row_after_items k d row) ≡ part_items k d
+  pub part_taken : (d : Due (List A)) (row : List Float) → take (length (part_items k d)) (row_after_items k d row) ≡ part_items k d
   part_taken (due xs) row = take_at (flat_items k xs) (drop (length (flat_items k xs)) row) (length (flat_items k xs)) refl
   part_taken (refused n) row = refl
 

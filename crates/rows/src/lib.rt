@@ -21,10 +21,10 @@ pub mod circles;
 
 // The most points that are kept until the last of them is settled; an arc is hardly ever cut into
 // more.
-const KEPT: u16 = 64;
+pub const KEPT: u16 = 64;
 
 // The point p, behind the first i of a buffer.
-fn put(buf: &mut [f64], i: u16, p: Vec3)
+pub fn put(buf: &mut [f64], i: u16, p: Vec3)
     requires { 3 * i + 3 ≤ length buf.old }
     ensures { buf.new ≡ placed i p buf.old }
 {
@@ -104,7 +104,7 @@ pub fn write<F: Fn(u16) -> Result<Vec3, Refusal>>(
     ensures { (f : ℕ → Checked Vec3) → Gives (F.post point) f → Drawn (fits (length row.old) m (answered (up_to f m))) row.old row.new (told result) }
 {
     require(3 * (m as usize) <= row.len(), Refusal::RowTooShort)?;
-    if m <= KEPT {
+    if (m > 0) & (m <= KEPT) {
         write_kept(row, m, &point)?;
     } else {
         write_twice(row, m, &point)?;

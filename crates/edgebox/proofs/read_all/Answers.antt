@@ -2,7 +2,7 @@
 use mathlib.Core.Path.{refl, sym, ◌∙◌}
 use borrow.Author.Rules.{rules}
 use Rattle.edge_file.specs.Steps.{state}
-use Rattle.edgebox.proofs.Files.{took, stands_begun, stands_more, stands_last, stands_over}
+use Rattle.edgebox.proofs.Files.{stands_begun, stands_more, stands_last, stands_over}
 use Rattle.edgebox.proofs.read_all.Goals as goal
 
 pub loop-init : goal.loop-init
@@ -10,15 +10,13 @@ loop-init g c = (refl, stands_begun (state c.begun-reading.result) c.begun-readi
 
 pub loop-preserved : goal.loop-preserved
 loop-preserved g c =
-    let f = c.feed in
     let l = c.loop in
-    (search rules, stands_more (state l.reading) (state f.result.reading) _ l.invariant.1 (took _ _ _ _ f.ensures) (sym c.is_due.ensures ∙ c.if-not-is_due.false))
+    (search rules, stands_more (state l.reading) (state c.take-reading.result) _ l.invariant.1 c.take-reading.ensures (sym c.is_due.ensures ∙ c.if-not-is_due.false))
 
 pub returns-after-loop : goal.returns-after-loop
 returns-after-loop g c = stands_over (state c.loop.reading) c.loop.invariant.1
 
 pub returns-then-not-is_due : goal.returns-then-not-is_due
 returns-then-not-is_due g c =
-    let f = c.feed in
     let l = c.loop in
-    stands_last (state l.reading) (state f.result.reading) _ l.invariant.1 (took _ _ _ _ f.ensures)
+    stands_last (state l.reading) (state c.take-reading.result) _ l.invariant.1 c.take-reading.ensures

@@ -4,12 +4,12 @@ use Rattle.exports.proofs.of_curves.jr_curve_extend_bounds.Goals as goal
 
 pub returns : goal.returns
 returns c =
-    let read = known_some _ _ _ _ c.curve_of.ensures c.in-Some.is in
+    let read = known_some _ _ _ _ c.known_curve.ensures c.in-Some.is in
     let s = simp (c.extended.ensures, c.vec3_of.ensures, c.vec3_of-2.ensures, c.bounds_of.ensures) at c.store.ensures in
     simp (read.0, read.1) (record { number = s.number; corners = s.out })
 
 pub returns-in_default : goal.returns-in_default
 unfolding stored
 returns-in_default c =
-    let unread = known_none _ _ _ c.curve_of.ensures c.in_default.is in
+    let unread = known_none _ _ _ c.known_curve.ensures c.in_default.is in
     record { number = simp unread; corners = simp unread }

@@ -5,7 +5,7 @@ use Rattle.exports.proofs.of_curves.jr_curve_inner_points.Goals as goal
 
 pub returns : goal.returns
 returns c =
-    let read = known_some _ _ _ _ c.curve_of.ensures c.in-Some.is in
+    let read = known_some _ _ _ _ c.known_curve.ensures c.in-Some.is in
     let d = simp (c.vec3_of.ensures, c.vec3_of-2.ensures) at c.write_inner_points.ensures in
     simp (read.0, read.1) (record {
       number = c.store_drawn.ensures.number ∙ drawn_number _ _ _ _ d;
@@ -16,5 +16,5 @@ returns c =
 pub returns-in_default : goal.returns-in_default
 unfolding after_count
 returns-in_default c =
-    let unread = known_none _ _ _ c.curve_of.ensures c.in_default.is in
+    let unread = known_none _ _ _ c.known_curve.ensures c.in_default.is in
     record { number = simp unread; row = simp unread; written = simp unread }

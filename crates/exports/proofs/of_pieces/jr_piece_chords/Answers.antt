@@ -4,11 +4,11 @@ use Rattle.exports.proofs.of_pieces.jr_piece_chords.Goals as goal
 
 pub returns : goal.returns
 returns c =
-    let read = known_some _ _ _ _ c.piece_of.ensures c.in-Some.is in
+    let read = known_some _ _ _ _ c.known_piece.ensures c.in-Some.is in
     simp (read.0, read.1) (simp c.chords.ensures at c.store.ensures)
 
 pub returns-in_default : goal.returns-in_default
 unfolding stored
 returns-in_default c =
-    let unread = known_none _ _ _ c.piece_of.ensures c.in_default.is in
+    let unread = known_none _ _ _ c.known_piece.ensures c.in_default.is in
     record { number = simp unread; out = simp unread }

@@ -4,12 +4,12 @@ use Rattle.exports.proofs.of_sums.jr_revolution_add_piece.Goals as goal
 
 pub returns : goal.returns
 returns c =
-    let read = known_some _ _ _ _ c.piece_of.ensures c.in-Some.is in
+    let read = known_some _ _ _ _ c.known_piece.ensures c.in-Some.is in
     let s = simp (c.add_piece.ensures, c.sums_of.ensures, c.cone_of.ensures, c.vec3_of.ensures) at c.store.ensures in
     simp (read.0, read.1) (record { number = s.number; running = s.out })
 
 pub returns-in_default : goal.returns-in_default
 unfolding stored
 returns-in_default c =
-    let unread = known_none _ _ _ c.piece_of.ensures c.in_default.is in
+    let unread = known_none _ _ _ c.known_piece.ensures c.in_default.is in
     record { number = simp unread; running = simp unread }
