@@ -42,6 +42,7 @@ pub fn rim(arc: Arc, from: Vec3) -> Result<Circle, Refusal>
 }
 
 // The point at the angle t from `from`.
+#[inline(always)]
 pub fn at(arc: Arc, from: Vec3, t: f64) -> Result<Vec3, Refusal>
     ensures { told result ≡ answered (at_c arc.center arc.axis arc.radius from t) }
 {

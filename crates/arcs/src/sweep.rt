@@ -27,6 +27,7 @@ pub fn ends_within(arc: Arc, from: Vec3, to: Vec3) -> bool
 }
 
 // The angle turned until the direction of p, from a start that lies at u from the centre.
+#[inline(always)]
 pub fn sweep_from(arc: Arc, u: Vec3, p: Vec3) -> Result<f64, Refusal>
     ensures { told result ≡ answered (sweep_from_c arc.center arc.axis u p) }
 {
@@ -36,6 +37,7 @@ pub fn sweep_from(arc: Arc, u: Vec3, p: Vec3) -> Result<f64, Refusal>
 }
 
 #[tactic(auto, using(crate::specs::SweepLaws::sweep_refusal), unfolding(crate::specs::Sweep::sweep_c))]
+#[inline(always)]
 pub fn sweep(arc: Arc, from: Vec3, to: Vec3) -> Result<f64, Refusal>
     ensures { told result ≡ answered (sweep_c arc.center arc.axis from to) }
 {

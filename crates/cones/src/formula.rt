@@ -28,6 +28,7 @@ pub fn least_axis(x: f64, y: f64, z: f64) -> Vec3
 }
 
 // The unit vector's numbers are tried with e2, which is made of them.
+#[inline(always)]
 pub fn own_frame(c: Cone) -> Result<Frame, Refusal>
     ensures { told result ≡ answered (frame_c c) }
 {
@@ -47,6 +48,7 @@ pub fn own_frame(c: Cone) -> Result<Frame, Refusal>
     })
 }
 
+#[inline(always)]
 pub fn angle(f: Frame, p: Vec3) -> Result<f64, Refusal>
     ensures { told result ≡ answered (angle_c f p) }
 {
@@ -56,6 +58,7 @@ pub fn angle(f: Frame, p: Vec3) -> Result<f64, Refusal>
     finite(atan2(y, x))
 }
 
+#[inline(always)]
 pub fn point(f: Frame, theta: f64, z: f64, r: f64) -> Result<Vec3, Refusal>
     ensures { told result ≡ answered (point_c f theta z r) }
 {

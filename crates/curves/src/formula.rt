@@ -9,6 +9,7 @@ use crate::{Curve, RolledAt};
 use checked::Refusal;
 use motions::Rigid;
 
+#[inline(always)]
 pub fn reversed(c: Curve) -> Result<Curve, Refusal>
     ensures { told result ≡ answered (reversed_c c) }
 {
@@ -21,6 +22,7 @@ pub fn reversed(c: Curve) -> Result<Curve, Refusal>
     }
 }
 
+#[inline(always)]
 pub fn moved(c: Curve, m: Rigid) -> Result<Curve, Refusal>
     ensures { told result ≡ answered (moved_c c m) }
 {

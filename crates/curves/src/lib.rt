@@ -49,6 +49,7 @@ impl Curve {
     }
 
     // The same curve run the other way.
+    #[inline(always)]
     pub fn reversed(self) -> Result<Curve, Refusal>
         ensures { told result ≡ reversed_due self }
     {
@@ -57,6 +58,7 @@ impl Curve {
     }
 
     // The same curve moved by m.
+    #[inline(always)]
     pub fn moved(self, m: Rigid) -> Result<Curve, Refusal>
         ensures { told result ≡ moved_due self m }
     {
@@ -66,6 +68,7 @@ impl Curve {
     }
 
     // The arc that the curve is, where it is one.
+    #[inline(always)]
     pub fn arc(self) -> Result<Option<Arc>, Refusal>
         ensures { told result ≡ arc_due self }
     {

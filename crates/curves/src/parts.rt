@@ -14,6 +14,7 @@ use piece_boxes::space_boxes::extended_by;
 use pieces::Rolled;
 use pieces::formula::run;
 
+#[inline(always)]
 pub fn moved_arc(a: Arc, m: Rigid) -> Result<Arc, Refusal>
     ensures { told result ≡ answered (moved_arc_c a m) }
 {
@@ -26,6 +27,7 @@ pub fn moved_arc(a: Arc, m: Rigid) -> Result<Arc, Refusal>
 }
 
 // The piece moves with its development.
+#[inline(always)]
 pub fn moved_piece(p: Rolled, m: Rigid) -> Result<Rolled, Refusal>
     ensures { told result ≡ answered (moved_piece_c p m) }
 {

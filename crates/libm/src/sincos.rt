@@ -101,6 +101,8 @@ fn both_sines(a: Angle) -> Sines
     }
 }
 
+// Inlined, since what is returned through memory as a pair and read as one waits there.
+#[inline(always)]
 pub fn sincos(x: f64) -> Result<Sines, Refusal>
     ensures { told result ≡ answered (Circle.sincos_c x) }
 {

@@ -17,6 +17,7 @@ pub struct Axis {
     pub along: Vec3,
 }
 
+#[inline(always)]
 pub fn moved(m: Rigid, origin: Vec3, along: Vec3) -> Result<Axis, Refusal>
     ensures { told result ≡ answered (moved_c m origin along) }
 {

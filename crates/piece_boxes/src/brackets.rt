@@ -87,6 +87,7 @@ pub fn widen(b: FlatBox, p: Vec2) -> FlatBox
 
 // The box with the turning point between the samples k and k + 1, of derivatives d0 and d1, where
 // there is one.
+#[inline(always)]
 pub fn bracketed(
     c: MeetCurve,
     upright: bool,

@@ -78,6 +78,7 @@ pub fn angle(c: MeetCurve, t: f64) -> f64
 }
 
 // How fast u runs at t along a hole, how fast v runs, and where the generatrix ends.
+#[inline(always)]
 fn moved(c: MeetCurve, t: f64) -> MeetRates
     ensures u { told result.u ≡ answered (around_c c t) }
     ensures v { told result.v ≡ answered (slope_v_c c t) }
@@ -122,6 +123,7 @@ fn moved(c: MeetCurve, t: f64) -> MeetRates
 }
 
 // How fast u and v run at t, and where the generatrix ends.
+#[inline(always)]
 pub fn motion(c: MeetCurve, t: f64) -> MeetRates
     ensures u { told result.u ≡ answered (slope_u_c c t) }
     ensures v { told result.v ≡ answered (slope_v_c c t) }
@@ -148,6 +150,7 @@ fn near(c: MeetCurve, q: Vec3) -> f64
 }
 
 // u and v where the generatrix at t ends at q.
+#[inline(always)]
 pub fn placed(c: MeetCurve, t: f64, q: Vec3) -> Result<Vec2, Refusal>
     ensures { told result ≡ answered (placed_c c t q) }
 {
@@ -168,6 +171,7 @@ pub fn placed(c: MeetCurve, t: f64, q: Vec3) -> Result<Vec2, Refusal>
 }
 
 // The point at t.
+#[inline(always)]
 pub fn point(c: MeetCurve, t: f64) -> Result<Vec2, Refusal>
     ensures { told result ≡ answered (point_c c t) }
 {
@@ -176,6 +180,7 @@ pub fn point(c: MeetCurve, t: f64) -> Result<Vec2, Refusal>
 }
 
 // The point at t, and its derivative.
+#[inline(always)]
 pub fn at(c: MeetCurve, t: f64) -> Result<Place, Refusal>
     ensures { told result ≡ answered (at_c c t) }
 {

@@ -84,6 +84,7 @@ pub fn wave_at(w: Wave, ends: Ends, t: f64) -> Result<Place, Refusal>
 }
 
 // The point at t, and its derivative.
+#[inline(always)]
 pub fn at(r: PieceCurve, t: f64) -> Result<Place, Refusal>
     ensures { told result ≡ answered (at_c r t) }
 {

@@ -29,6 +29,7 @@ fn wave_point(w: Wave, ends: Ends, t: f64) -> Result<Vec2, Refusal>
 }
 
 // The point at t in the development.
+#[inline(always)]
 pub fn flat_point(r: PieceCurve, t: f64) -> Result<Vec2, Refusal>
     ensures { told result ≡ answered (flat_c r t) }
 {
@@ -41,6 +42,7 @@ pub fn flat_point(r: PieceCurve, t: f64) -> Result<Vec2, Refusal>
 }
 
 // The point at t, `radius` from the axis.
+#[inline(always)]
 pub fn rolled_point(g: Rolling, t: f64) -> Result<Vec3, Refusal>
     ensures { told result ≡ answered (rolled_c g t) }
 {

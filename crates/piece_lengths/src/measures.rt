@@ -35,6 +35,7 @@ pub fn distance(a: Vec2, b: Vec2) -> Result<f64, Refusal>
 }
 
 // The place after k of 32 chords along a wave.
+#[inline(always)]
 fn wave_place(w: Wave, ends: Ends, k: u16) -> Result<Place, Refusal>
     ensures { told result ≡ answered (place_c (wave_run ends.from ends.to ends.neutral w) k) }
 {
@@ -44,6 +45,7 @@ fn wave_place(w: Wave, ends: Ends, k: u16) -> Result<Place, Refusal>
 
 // The place after k of 32 chords along a meet: as `at` of `meet_curves`, over which, inlined or not, the measure of a
 // meet takes a tenth more time.
+#[inline(always)]
 fn meet_place(c: MeetCurve, k: u16) -> Result<Place, Refusal>
     ensures { told result ≡ answered (place_c (followed c) k) }
 {

@@ -35,6 +35,7 @@ fn angle_bend(q: Vec2, q1: Vec2, q2: Vec2) -> Result<f64, Refusal>
 }
 
 // The second derivative along a meet: of v, and along a hole of u too.
+#[inline(always)]
 pub fn meet_second(c: MeetCurve, t: f64) -> Result<Vec2, Refusal>
     ensures { told result ≡ answered (meet_c c t) }
 {

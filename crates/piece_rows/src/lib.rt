@@ -13,6 +13,7 @@ use rows::write;
 use vectors::Vec3;
 
 // The point k of n.
+#[inline(always)]
 fn point_at(g: Rolling, n: u16, k: u16) -> Result<Vec3, Refusal>
     ensures { told result ≡ answered (inner_c g n k) }
 {
