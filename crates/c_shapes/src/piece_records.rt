@@ -15,6 +15,7 @@ use piece_lengths::measures::Measure;
 use pieces::Rolled;
 
 // A piece where its tags are known: of its arc and of its trace.
+#[inline(always)]
 pub fn known_piece(a: &[f64; 26], arc: u32, trace: u32) -> Option<Rolled>
     ensures { result ≡ known (is_piece arc trace) (piece a.now arc trace) }
 {

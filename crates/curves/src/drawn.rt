@@ -1,8 +1,10 @@
 // The points of a curve for drawing, written to a lent row: the Rust's `Curve::inner_points`. These
 // are functions of a curve and no methods, since a method must stand in its type's crate.
 ghost use Rattle.std.specs.Prelude.{◌≡◌, length};
+ghost use Rattle.checked.specs.Checked.{answered};
 ghost use Rattle.checked.specs.Told.{told, failed};
 ghost use Rattle.rows.specs.Rows.{Drawn, DrawnPart};
+ghost use Rattle.piece_lengths.specs.Counts.{chords_c};
 ghost use Rattle.curves.specs.Drawn.{tests, piece_due, inner_points_due};
 
 use crate::{Curve, RolledAt};
@@ -30,6 +32,14 @@ fn tried(w: RolledAt, from: Vec3, to: Vec3, chord: f64) -> Result<(), Refusal>
     require_chord(chord)
 }
 
+// Into how many chords a piece is cut that is ready to be drawn.
+#[inline(always)]
+fn chords(g: Rolling, chord: f64) -> Result<u16, Refusal>
+    ensures { told result ≡ answered (chords_c g.run g.radius chord) }
+{
+    chords_of(g.run, g.radius, chord)
+}
+
 // The points of a piece.
 fn write_piece(
     w: RolledAt,
@@ -42,12 +52,12 @@ fn write_piece(
 {
     tried(w, from, to, chord)?;
     let run = run(w.piece)?;
-    let n = chords_of(run, w.radius, chord)?;
     let g = Rolling {
         dev: w.piece.dev,
         radius: w.radius,
         run,
     };
+    let n = chords(g, chord)?;
     write_points(g, n, row)
 }
 

@@ -73,6 +73,8 @@ pub fn piece_at(a: &[f64], arc: u32, trace: u32) -> Rolled
     }
 }
 
+// The piece of an array. Inlined, since a call copies the piece.
+#[inline(always)]
 pub fn piece_of(a: &[f64; 26], arc: u32, trace: u32) -> Rolled
     ensures { result ≡ piece a.now arc trace }
 {

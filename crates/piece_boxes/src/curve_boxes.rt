@@ -54,6 +54,7 @@ fn arc_box(a: ProfileArc, e: Ends) -> Result<FlatBox, Refusal>
     })
 }
 
+#[inline(never)]
 fn wave_box(w: Wave, e: Ends) -> Result<FlatBox, Refusal>
     ensures { told result ≡ answered (wave_c w e.from e.to e.neutral) }
 {
@@ -70,6 +71,7 @@ fn wave_box(w: Wave, e: Ends) -> Result<FlatBox, Refusal>
     })
 }
 
+#[inline(always)]
 pub fn uv_box(r: PieceCurve) -> Result<FlatBox, Refusal>
     ensures { told result ≡ answered (box_c r) }
 {

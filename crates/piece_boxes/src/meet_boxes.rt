@@ -83,6 +83,7 @@ fn spanned(c: MeetCurve, slopes: &[Vec2; 65], start: FlatBox) -> Result<FlatBox,
 }
 
 // The least and greatest u and v. A refusal of a sample comes before any of a halving.
+#[inline(never)]
 pub fn meet_box(c: MeetCurve) -> Result<FlatBox, Refusal>
     ensures { told result ≡ answered (box_c c) }
 {

@@ -42,6 +42,7 @@ pub struct PieceCurve {
 }
 
 // Along a trace where there is one, else along an arc, else straight on.
+#[inline(always)]
 fn way_of(ends: Ends, arc: Option<ProfileArc>, trace: Option<Trace>) -> Result<CurveKind, Refusal>
     ensures { told result ≡ answered (kind_c ends.from ends.to ends.neutral arc trace) }
 {
@@ -54,6 +55,7 @@ fn way_of(ends: Ends, arc: Option<ProfileArc>, trace: Option<Trace>) -> Result<C
 }
 
 // The piece of these ends, arc and trace.
+#[inline(always)]
 pub fn curve_of(
     ends: Ends,
     arc: Option<ProfileArc>,

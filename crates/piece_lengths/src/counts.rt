@@ -21,6 +21,7 @@ use waves::Wave;
 const FINEST: f64 = 64.0;
 
 // Pieces to integrate over: at most 45° each, in the development and about the axis.
+#[inline(always)]
 pub fn quadrature_pieces(r: PieceCurve) -> Result<u16, Refusal>
     ensures { told result ≡ answered (quadrature_c r) }
 {
@@ -41,6 +42,7 @@ fn own_turn(w: CurveKind, rho: f64, chord: f64) -> Result<f64, Refusal>
 }
 
 // Chords for drawing the piece at `radius` from the axis, each at most `chord` off.
+#[inline(always)]
 pub fn chords_of(r: PieceCurve, radius: f64, chord: f64) -> Result<u16, Refusal>
     ensures { told result ≡ answered (chords_c r radius chord) }
 {
@@ -72,6 +74,7 @@ fn off(length: f64, amp: f64, n: f64, deviation: f64) -> Result<f64, Refusal>
     finite(length * sqrt(y / e))
 }
 
+#[inline(never)]
 fn wave_line(w: Wave, ends: Ends, deviation: f64) -> Result<u16, Refusal>
     ensures { told result ≡ answered (wave_line_c w ends.from ends.to ends.neutral deviation) }
 {
@@ -96,6 +99,7 @@ fn bend_of(c: MeetCurve) -> Result<f64, Refusal>
     Ok(bend)
 }
 
+#[inline(never)]
 fn meet_line(c: MeetCurve, deviation: f64) -> Result<u16, Refusal>
     ensures { told result ≡ answered (meet_line_c c deviation) }
 {
@@ -106,6 +110,7 @@ fn meet_line(c: MeetCurve, deviation: f64) -> Result<u16, Refusal>
 }
 
 // Chords of a polyline through the piece in its development, each at most `deviation` off it.
+#[inline(always)]
 pub fn polyline_of(r: PieceCurve, deviation: f64) -> Result<u16, Refusal>
     ensures { told result ≡ answered (polyline_c r deviation) }
 {

@@ -82,6 +82,7 @@ fn further(s: Result<f64, Refusal>, u: Vec2, v: Vec2) -> Result<f64, Refusal>
 }
 
 // A trace as 32 chords between its places. A refusal of a place comes before any of a chord.
+#[inline(never)]
 fn traced<F: Fn(u16) -> Result<Place, Refusal>>(place: F) -> Result<Measure, Refusal>
     requires { F.IsAlwaysCallable place }
     ensures { (r : PieceCurve) → IsPlace (F.post place) r → told result ≡ answered (traced_c r) }
@@ -129,6 +130,7 @@ pub fn arc_measure(a: ProfileArc, ends: Ends) -> Result<Measure, Refusal>
     })
 }
 
+#[inline(always)]
 pub fn measure_of(r: PieceCurve) -> Result<Measure, Refusal>
     ensures { told result ≡ answered (measure_c r) }
 {

@@ -29,6 +29,7 @@ fn ends(p: Rolled) -> Ends
 }
 
 // What the piece follows, ready to be followed.
+#[inline(always)]
 pub fn run(p: Rolled) -> Result<PieceCurve, Refusal>
     ensures { told result ≡ answered (run_c p) }
 {

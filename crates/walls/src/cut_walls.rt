@@ -27,6 +27,7 @@ fn require_wall(acc: Integrals, p: Rolled, r0: f64, r1: f64, o: Vec3) -> Result<
 
 // The sums of a body with those of the wall over a piece added, from r0 to r1 from the axis of its
 // development; volumes are measured from o.
+#[tactic(auto, using(checked::specs::ToldLaws::exit_is, checked::specs::ToldLaws::passing_number, checked::specs::ToldLaws::passes), unfolding(crate::specs::Entries::wall_due))]
 pub fn with_cut_wall(
     acc: Integrals,
     p: Rolled,
