@@ -32,6 +32,7 @@ pub fn quadrature_pieces(r: PieceCurve) -> Result<u16, Refusal>
 }
 
 // Chords of a full turn of the piece's own.
+#[inline(always)]
 fn own_turn(w: CurveKind, rho: f64, chord: f64) -> Result<f64, Refusal>
     ensures { told result ≡ answered (own_turn_c w rho chord) }
 {

@@ -82,7 +82,6 @@ fn further(s: Result<f64, Refusal>, u: Vec2, v: Vec2) -> Result<f64, Refusal>
 }
 
 // A trace as 32 chords between its places. A refusal of a place comes before any of a chord.
-#[inline(never)]
 fn traced<F: Fn(u16) -> Result<Place, Refusal>>(place: F) -> Result<Measure, Refusal>
     requires { F.IsAlwaysCallable place }
     ensures { (r : PieceCurve) → IsPlace (F.post place) r → told result ≡ answered (traced_c r) }
@@ -103,6 +102,21 @@ fn traced<F: Fn(u16) -> Result<Place, Refusal>>(place: F) -> Result<Measure, Ref
         turn,
         length,
     })
+}
+
+// Along a wave. It is a call of its own, as that along a meet, since what a closure reads stands in memory.
+#[inline(never)]
+fn wave_measure(w: Wave, ends: Ends) -> Result<Measure, Refusal>
+    ensures { told result ≡ answered (traced_c (wave_run ends.from ends.to ends.neutral w)) }
+{
+    traced(|k| wave_place(w, ends, k))
+}
+
+#[inline(never)]
+fn meet_measure(c: MeetCurve) -> Result<Measure, Refusal>
+    ensures { told result ≡ answered (traced_c (followed c)) }
+{
+    traced(|k| meet_place(c, k))
 }
 
 pub fn segment(ends: Ends) -> Result<Measure, Refusal>
@@ -137,7 +151,7 @@ pub fn measure_of(r: PieceCurve) -> Result<Measure, Refusal>
     match r.way {
         CurveKind::Straight => segment(r.ends),
         CurveKind::Arc(a) => arc_measure(a, r.ends),
-        CurveKind::Wave(w) => traced(|k| wave_place(w, r.ends, k)),
-        CurveKind::Meet(c) => traced(|k| meet_place(c, k)),
+        CurveKind::Wave(w) => wave_measure(w, r.ends),
+        CurveKind::Meet(c) => meet_measure(c),
     }
 }
